@@ -1,0 +1,12 @@
+pub mod Order
+pub mod Tests
+pub mod Every
+pub mod Some
+pub mod All
+pub mod Tables
+pub mod Tally
+pub mod Lowest
+pub mod Pasted
+pub mod Decimal
+pub mod Stores
+pub mod Parts

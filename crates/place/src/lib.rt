@@ -1,0 +1,68 @@
+// Places: which match, and how a book keeps one.
+ghost use mathlib.Core.Path.{_≡_};
+ghost use Rattle.place.specs.Place.{meet};
+ghost use Rattle.place.specs.Promise.{MatchesPromise, MatchesSomePromise, FirstWordPromise, PlaceOfPromise, BadPlacePromise};
+
+// Whether two counties, or two parts, are equal or either is 0.
+fn meets(a: u32, b: u32) -> bool
+    ensures { λ r. ⌜ r ≡ meet a b ⌝ }
+{
+    if a == b {
+        return true;
+    }
+    if a == 0 {
+        return true;
+    }
+    b == 0
+}
+
+// Whether a watched place and a place of a header match.
+pub fn matches(watched: u32, sent: u32) -> bool
+    ensures { λ r. ⌜ MatchesPromise watched sent r ⌝ }
+{
+    if watched / 1000 % 100 != sent / 1000 % 100 {
+        return false;
+    }
+    if !meets(watched % 1000, sent % 1000) {
+        return false;
+    }
+    meets(watched / 100000, sent / 100000)
+}
+
+// Whether a watched place matches at least one place of a header. One look at each, up to the first that matches.
+pub fn matches_some(watched: u32, sent: &[u32]) -> bool
+    ensures { λ r. ⌜ MatchesSomePromise watched (now (sent .entry)) r ⌝ }
+{
+    let mut i: usize = 0;
+    while i < sent.len() {
+        if matches(watched, sent[i]) {
+            return true;
+        }
+        i += 1;
+    }
+    false
+}
+
+// The first word of a place's records.
+pub fn first_word(place: u32) -> u32
+    ensures { λ r. ⌜ FirstWordPromise place r ⌝ }
+{
+    place / 1000 % 100 * 10000 + place % 1000 * 10 + place / 100000
+}
+
+// The place of a first word.
+pub fn place_of(word: u32) -> u32
+    ensures { λ r. ⌜ PlaceOfPromise word r ⌝ }
+{
+    word % 10 * 100000 + word / 10000 * 1000 + word / 10 % 1000
+}
+
+// Whether a book would not take the place.
+pub fn bad_place(place: u32) -> bool
+    ensures { λ r. ⌜ BadPlacePromise place r ⌝ }
+{
+    if 999999 < place {
+        return true;
+    }
+    place / 1000 % 100 == 0
+}
