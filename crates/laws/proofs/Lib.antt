@@ -1,4 +1,5 @@
 pub mod Order
+pub mod Quiet
 pub mod Tests
 pub mod Every
 pub mod Some

@@ -50,3 +50,9 @@ isRefusal (refusedAt n i) = true
 abbrev pub Refusals : {A : Type 0} → List (Row (Said A)) → Type 0
 Refusals [] = Unit
 Refusals (r ∷ rows) = (isRefusal (r .says) ≡ true) × Refusals rows
+
+-- what is said next, where the first is granted
+abbrev pub next : {A B : Type 0} → Said A → (A → Said B) → Said B
+next (granted a) rest = rest a
+next (refused n) rest = refused n
+next (refusedAt n i) rest = refusedAt n i

@@ -1,0 +1,4 @@
+pub mod Kind
+pub mod Codec
+pub mod Law
+pub mod Promise

@@ -1,0 +1,119 @@
+// The code on bytes and digits that the formats share. Every call takes any input.
+ghost use mathlib.Core.Path.{_≡_};
+ghost use mathlib.Core.List.{_∷_, []};
+ghost use Rattle.laws.specs.Numbers.{dig};
+ghost use Rattle.codec.specs.Promise.{BetweenPromise, SamePromise, DigitsAtPromise, PutPromise};
+
+// What digits say: a number, or none where they are no digits or too many or do not stand there.
+pub enum Number {
+    Is(u32),
+    None,
+}
+
+fn wide(b: u8) -> u32
+    ensures { λ r. ⌜ r ≡ b ⌝ }
+{
+    b as u32
+}
+
+// Whether lo ≤ b ≤ hi.
+pub fn between(lo: u8, hi: u8, b: u8) -> bool
+    ensures { λ r. ⌜ BetweenPromise lo hi b r ⌝ }
+{
+    if b < lo {
+        return false;
+    }
+    b <= hi
+}
+
+// Whether a and b are the same bytes. One look at each, up to the first that differs.
+pub fn same(a: &[u8], b: &[u8]) -> bool
+    ensures { λ r. ⌜ SamePromise (now (a .entry)) (now (b .entry)) r ⌝ }
+{
+    if a.len() != b.len() {
+        return false;
+    }
+    let mut k: usize = 0;
+    while k < a.len() {
+        if a[k] != b[k] {
+            return false;
+        }
+        k += 1;
+    }
+    true
+}
+
+// The number that the digits at index at make. At most nine, so that it fits.
+pub fn digits_at(text: &[u8], at: usize, width: usize) -> Number
+    ensures { λ r. ⌜ DigitsAtPromise (now (text .entry)) at width r ⌝ }
+{
+    if 9 < width {
+        return Number::None;
+    }
+    if text.len() < at {
+        return Number::None;
+    }
+    if text.len() - at < width {
+        return Number::None;
+    }
+    let mut n: u32 = 0;
+    let mut k: usize = 0;
+    while k < width {
+        let b = text[at + k];
+        if !between(48, 57, b) {
+            return Number::None;
+        }
+        n = n * 10 + (wide(b) - 48);
+        k += 1;
+    }
+    Number::Is(n)
+}
+
+// One byte at index at. Returns the index after it; where it does not fit, at, and nothing is written.
+pub fn put_byte(out: &mut [u8], at: usize, b: u8) -> usize
+    ensures { λ r. ⌜ PutPromise (now (out .entry)) at (b ∷ []) (now (out .exit)) r ⌝ }
+{
+    if out.len() <= at {
+        return at;
+    }
+    out[at] = b;
+    at + 1
+}
+
+// Some bytes at index at; else as put_byte.
+pub fn put_bytes(out: &mut [u8], at: usize, src: &[u8]) -> usize
+    ensures { λ r. ⌜ PutPromise (now (out .entry)) at (now (src .entry)) (now (out .exit)) r ⌝ }
+{
+    if out.len() < at {
+        return at;
+    }
+    if out.len() - at < src.len() {
+        return at;
+    }
+    let mut k: usize = 0;
+    while k < src.len() {
+        out[at + k] = src[k];
+        k += 1;
+    }
+    at + k
+}
+
+// The last width digits of n at index at, from the right; else as put_byte.
+pub fn put_digits(out: &mut [u8], at: usize, n: u32, width: usize) -> usize
+    ensures { λ r. ⌜ PutPromise (now (out .entry)) at (dig width n) (now (out .exit)) r ⌝ }
+{
+    if out.len() < at {
+        return at;
+    }
+    if out.len() - at < width {
+        return at;
+    }
+    let mut v = n;
+    let mut k = width;
+    while 0 < k {
+        k -= 1;
+        out[at + k] = (48 + v % 10) as u8;
+        v = v / 10;
+    }
+    at + width
+}
