@@ -11,3 +11,6 @@ pub mod Pasted
 pub mod Decimal
 pub mod Stores
 pub mod Parts
+pub mod Either
+pub mod Counting
+pub mod Shuffled

@@ -1,0 +1,12 @@
+pub mod Same
+pub mod Subs
+pub mod Keeps
+pub mod Ranges
+pub mod Holds
+pub mod Afresh
+pub mod Run
+pub mod Adding
+pub mod Together
+pub mod Loads
+pub mod Changes
+pub mod Proved

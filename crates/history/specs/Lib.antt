@@ -1,0 +1,3 @@
+pub mod Members
+pub mod Adding
+pub mod Statements

@@ -1,0 +1,12 @@
+pub mod Form
+pub mod Laid
+pub mod Good
+pub mod Sound
+pub mod Whole
+pub mod Ranks
+pub mod Moves
+pub mod Pulls
+pub mod Put
+pub mod Taken
+pub mod Counts
+pub mod Edited

@@ -1,0 +1,7 @@
+pub mod Form
+pub mod Rules
+pub mod Edits
+pub mod Steps
+pub mod Load
+pub mod Afresh
+pub mod History
