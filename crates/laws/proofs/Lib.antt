@@ -14,3 +14,6 @@ pub mod Parts
 pub mod Either
 pub mod Counting
 pub mod Shuffled
+pub mod Ranges
+pub mod Writes
+pub mod Rows

@@ -1,0 +1,9 @@
+pub mod Stripped
+pub mod Bytes
+pub mod Lengths
+pub mod Heard
+pub mod Arranged
+pub mod Agreed
+pub mod Consequence
+pub mod NoChoice
+pub mod Cases

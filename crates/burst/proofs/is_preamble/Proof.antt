@@ -1,0 +1,12 @@
+-- `burst::is_preamble` meets its contract. Assumes nothing.
+use mathlib.Core.Path.{refl}
+use Rattle.burst.specs.Strip.{preamble}
+use Rattle.burst.proofs.is_preamble.Statement.{statement}
+use Rattle.burst.proofs.is_preamble.Tie as tie
+
+returns : tie.Need-returns
+unfolding preamble
+returns c = refl
+
+pub is-preamble-spec : {M : Type 1} → statement M
+is-preamble-spec = tie.close (tie.spec returns)

@@ -1,0 +1,6 @@
+pub mod Strip
+pub mod Bits
+pub mod Vote
+pub mod Sent
+pub mod Promise
+pub mod Steps

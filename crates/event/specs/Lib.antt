@@ -1,0 +1,4 @@
+pub mod Events
+pub mod Class
+pub mod Promise
+pub mod Steps
