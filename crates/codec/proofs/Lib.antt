@@ -6,3 +6,4 @@ pub mod Sizes
 pub mod Numbers
 pub mod Puts
 pub mod NoChoice
+pub mod Stages

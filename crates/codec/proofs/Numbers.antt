@@ -1,19 +1,17 @@
 -- What a number that was read says of its digits. Assumes nothing.
 use Prim.Native.Nat.{ℕ, _+_, _≤_, _<_}
-use mathlib.Core.Path.{_≡_, refl, sym, ap, _∙_}
+use mathlib.Core.Path.{_≡_, refl}
 use mathlib.Core.List.{List}
 use mathlib.Core.Bool.{Bool, true, false, _&&_, and-false}
 use native.Mathlib.Omega.{arith}
 use lib.ListN.{length, take, drop}
 use lib.Dec.{leb}
-use borrow.Author.Tests.{le-leb, lt-leb, leb-true}
+use borrow.Author.Tests.{le-leb, lt-leb}
 use Rattle.laws.specs.Order.{choose}
 use Rattle.laws.specs.Lists.{every}
 use Rattle.laws.specs.Numbers.{digit, decimal}
-use Rattle.laws.proofs.Tests.{and-l, and-r}
 use Rattle.codec.specs.Kind.{digits}
 use Rattle.codec.specs.Promise.{numberAt}
-use Rattle.codec.specs.declared.Number.{Number}
 use Rattle.codec.specs.declared.Number.the-variants.{Is, None}
 
 module _ (t : List ℕ) (at w : ℕ) where

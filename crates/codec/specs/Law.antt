@@ -7,7 +7,7 @@ use lib.ListN.{length, getD, drop}
 use lib.Dec.{eqb}
 use Rattle.laws.specs.Order.{Quiet}
 use Rattle.codec.specs.Kind.{Kind}
-use Rattle.codec.specs.Codec.{Out, got, no, Codec, fits, either, _▷_}
+use Rattle.codec.specs.Codec.{got, no, Codec, fits, either}
 
 pub record Law {A : Type 0} (k : Kind A) : Type 0 where
   pub reads : (b : List ℕ) → length b ≡ k .width → k .allowed b ≡ true → (k .ok (k .value b) ≡ true) × (k .put (k .value b) ≡ b)

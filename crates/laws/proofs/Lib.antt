@@ -17,3 +17,7 @@ pub mod Shuffled
 pub mod Ranges
 pub mod Writes
 pub mod Rows
+pub mod Halving
+pub mod OrZero
+pub mod Plain
+pub mod Next

@@ -1,5 +1,5 @@
 -- Groups of rows of which none holds: each of them is quiet. Assumes nothing.
-use mathlib.Core.Bool.{Bool, true, false, not}
+use mathlib.Core.Bool.{Bool, true, not}
 use mathlib.Core.List.{List, [], _∷_, _++_}
 use mathlib.Core.Path.{_≡_, ap}
 use Rattle.laws.specs.Order.{Row, _when_, Quiet, none, more}

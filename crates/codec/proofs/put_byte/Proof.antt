@@ -1,5 +1,4 @@
 -- `codec::put_byte` meets its contract. Assumes nothing.
-use Prim.Native.Nat.{_+_}
 use mathlib.Core.Path.{refl}
 use native.Mathlib.Omega.{arith}
 use borrow.Author.Needs.{needs}

@@ -2,7 +2,6 @@
 use Prim.Native.Nat.{ℕ, _+_, _-_}
 use mathlib.Core.Path.{refl, sym, ap}
 use native.Mathlib.Omega.{arith}
-use lib.ListN.{length}
 use Rattle.laws.proofs.Decimal.{Digits, digit-turn, digits-done, length-dig}
 use Rattle.codec.proofs.Puts.{fits-put, put-not}
 use Rattle.codec.proofs.put_digits.Statement.{statement}

@@ -1,0 +1,11 @@
+pub mod Second
+pub mod Told
+pub mod Rises
+pub mod Zeros
+pub mod Search
+pub mod Standing
+pub mod Adds
+pub mod Removes
+pub mod Loads
+pub mod NoChoice
+pub mod Impostors

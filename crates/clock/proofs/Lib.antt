@@ -1,0 +1,9 @@
+pub mod Ranges
+pub mod Dates
+pub mod Moments
+pub mod States
+pub mod Until
+pub mod Asking
+pub mod Header
+pub mod Cases
+pub mod NoChoice

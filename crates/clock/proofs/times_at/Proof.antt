@@ -1,0 +1,68 @@
+-- `clock::times_at` meets its contract: the year is the header's, and its minutes are counted once. Assumes nothing.
+use mathlib.Core.Path.{_≡_, ap, _∙_}
+use Prim.Native.Nat.{ℕ, _+_}
+use native.Mathlib.Omega.{arith}
+use borrow.Author.Needs.{needs}
+use Rattle.clock.specs.Clock.{hasDay}
+use Rattle.clock.specs.Lifetime.{yearOf, minuteOf, stateOf, stampOf, timeIn, timesOf, issueOf, untilOf, lifetimeOf}
+use Rattle.header.proofs.Callers.{duration-bounds}
+use Rattle.clock.proofs.Ranges.{issue-of-year, clock-year}
+use Rattle.clock.proofs.Moments.{year-is, in-that-year}
+use Rattle.clock.proofs.times_at.Statement.{statement}
+use Rattle.clock.proofs.times_at.Tie as tie
+
+year-of-requires : tie.Need-year-of-requires
+year-of-requires c κs = search needs
+
+minute-of-requires : tie.Need-minute-of-requires
+minute-of-requires c κs =
+    let a = c .before .args in
+    issue-of-year (a .day) (a .hour) (a .minute) (c .before .pre .issue)
+
+stamp-of-requires : tie.Need-stamp-of-requires
+stamp-of-requires c κs =
+    let a = c .before .before .args in
+    ap (λ (y : ℕ). hasDay y (a .day)) (c .before .year-of .ensures) ∙ c .before .before .pre .exists
+
+add-stamp-in : tie.Need-add-stamp-in
+add-stamp-in c =
+    omega (arith, duration-bounds (c .before .before .before .args .duration) (c .before .before .before .pre .lasts), c .before .minute-of .ensures .low)
+
+stamp-in-requires : tie.Need-stamp-in-requires
+stamp-in-requires c κs =
+    let a = c .before .before .before .args in
+    let p = c .before .before .before .pre in
+    let d = duration-bounds (a .duration) (p .lasts) in
+    let e = c .before .before .year-of .ensures ∙ year-is (a .at) (a .day) (a .hour) (a .minute) in
+    (omega (arith, clock-year (a .at) (p .clock), e), omega (arith, c .before .minute-of .ensures .low, d))
+
+state-at-requires : tie.Need-state-at-requires
+state-at-requires c κs = search needs
+
+returns : tie.Need-returns
+unfolding timesOf
+returns c =
+    let a = c .before .before .before .before .before .args in
+    let y : c .before .before .before .before .year-of .result ≡ yearOf (a .at) (a .day) (a .hour) (a .minute) = c .before .before .before .before .year-of .ensures in
+    let m : c .before .before .before .minute-of .result ≡ minuteOf (a .day) (a .hour) (a .minute) = c .before .before .before .minute-of .ensures .is in
+    let i : c .before .before .stamp-of .result ≡ stampOf (issueOf (a .at) (a .day) (a .hour) (a .minute)) =
+    c .before .before .stamp-of .ensures ∙ ap (λ (n : ℕ). stampOf (record { year = n; day = a .day; hour = a .hour; minute = a .minute })) y in
+    let u : c .before .stamp-in .result ≡ stampOf (untilOf (a .at) (a .day) (a .hour) (a .minute) (a .duration)) =
+    c .before .stamp-in .ensures ∙ (λ q. stampOf (timeIn (y q) (m q + a .duration))) in
+    let s : c .state-at .result ≡ lifetimeOf (a .at) (a .day) (a .hour) (a .minute) (a .duration) =
+    c .state-at .ensures
+    ∙ ap (λ (n : ℕ). stateOf n (a .duration) (minuteOf (a .at .day) (a .at .hour) (a .at .minute))) m
+    ∙ in-that-year (a .at) (a .day) (a .hour) (a .minute) (a .duration) in
+    λ q. record { issued = i q; until = u q; state = s q }
+
+pub times-at-spec : {M : Type 1} → statement M
+times-at-spec =
+    tie.close
+    (tie.spec
+    year-of-requires
+    minute-of-requires
+    stamp-of-requires
+    add-stamp-in
+    stamp-in-requires
+    state-at-requires
+    returns)

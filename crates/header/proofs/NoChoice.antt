@@ -1,0 +1,69 @@
+-- The promises leave no choice, and a refusal writes nothing. Assumes nothing.
+use Prim.Native.Nat.{ℕ}
+use mathlib.Core.Path.{_≡_, refl, sym, ap, _∙_}
+use mathlib.Core.Bool.{Bool, true}
+use mathlib.Core.List.{List}
+use native.Mathlib.Omega.{arith}
+use lib.ListN.{length}
+use Rattle.laws.specs.Order.{Said, granted, refused, refusedAt, isRefusal}
+use Rattle.laws.specs.Space.{pasted}
+use Rattle.laws.proofs.Order.{refusal-leaves}
+use Rattle.header.specs.Header.{Alert, textOf}
+use Rattle.header.specs.Reading.{readSays}
+use Rattle.header.specs.Writing.{writeSays}
+use Rattle.header.specs.Answers.{verdictSays, said, saidWrote, fieldsFor, noFields, alertIn}
+use Rattle.header.specs.Promise.{ReadPromise, WritePromise, IsIssuePromise, IsDurationPromise}
+use Rattle.header.specs.declared.Fields.{Fields}
+use Rattle.header.specs.declared.Answer.{Answer}
+use Rattle.header.specs.declared.Verdict.{Verdict}
+use Rattle.header.specs.declared.Verdict.the-variants.{Granted, RefusedAt}
+use Rattle.header.specs.declared.Wrote.{Wrote}
+use Rattle.header.specs.declared.Wrote.the-variants.{Written, Refused}
+
+-- ---- what an answer says is one-to-one
+
+verdict-one : (v w : Verdict) (f g : Fields) → verdictSays v f ≡ verdictSays w g → v ≡ w
+verdict-one Granted Granted f g e = refl
+verdict-one Granted (RefusedAt n i) f g e = absurd (let z : _≡_ {A = ℕ} 0 1 = cc in omega arith)
+verdict-one (RefusedAt n i) Granted f g e = absurd (let z : _≡_ {A = ℕ} 0 1 = cc in omega arith)
+verdict-one (RefusedAt n i) (RefusedAt m j) f g e = let a : n ≡ m = cc in let b : i ≡ j = cc in λ q. RefusedAt (a q) (b q)
+
+pub said-one : (r s : Answer) → said r ≡ said s → r .fields ≡ s .fields → r ≡ s
+said-one r s e f = λ q. record { verdict = verdict-one (r .verdict) (s .verdict) (r .fields) (s .fields) e q; fields = f q }
+
+pub wrote-one : (r s : Wrote) → saidWrote r ≡ saidWrote s → r ≡ s
+wrote-one (Written n) (Written m) e = let a : n ≡ m = cc in ap Written a
+wrote-one (Written n) (Refused m) e = absurd (let z : _≡_ {A = ℕ} 0 1 = cc in omega arith)
+wrote-one (Refused n) (Written m) e = absurd (let z : _≡_ {A = ℕ} 0 1 = cc in omega arith)
+wrote-one (Refused n) (Refused m) e = let a : n ≡ m = cc in ap Refused a
+
+-- ---- read
+
+pub read-no-choice : {t : List ℕ} {r s : Answer} → ReadPromise t r → ReadPromise t s → r ≡ s
+read-no-choice {t} {r} {s} p q = said-one r s (p .says ∙ sym (q .says)) (p .fields ∙ sym (q .fields))
+
+-- it is lent no space; what it hands back of a refused text is zeros
+pub read-refusal-writes-nothing : {t : List ℕ} {r : Answer} → ReadPromise t r → isRefusal (said r) ≡ true → r .fields ≡ noFields
+read-refusal-writes-nothing {t} p h = p .fields ∙ go (readSays t) (sym (ap isRefusal (p .says)) ∙ h)
+  where
+    go : (s : Said Alert) → isRefusal s ≡ true → fieldsFor s ≡ noFields
+    go (granted a) h = absurd (let z : _≡_ {A = ℕ} 0 1 = cc in omega arith)
+    go (refused n) h = refl
+    go (refusedAt n i) h = refl
+
+-- ---- write
+
+pub write-no-choice : {f : Fields} {d d1 d2 : List ℕ} {r s : Wrote} → WritePromise f d d1 r → WritePromise f d d2 s → (r ≡ s) × (d1 ≡ d2)
+write-no-choice {r = r} {s = s} p q = (wrote-one r s (p .says ∙ sym (q .says)), p .space ∙ sym (q .space))
+
+pub write-refusal-writes-nothing : {f : Fields} {d d1 : List ℕ} {r : Wrote} → WritePromise f d d1 r → isRefusal (saidWrote r) ≡ true → d1 ≡ d
+write-refusal-writes-nothing {f} {d} p h =
+    p .space ∙ refusal-leaves (λ n out. pasted out 0 (textOf (alertIn f))) (writeSays (alertIn f) (length d)) d (sym (ap isRefusal (p .says)) ∙ h)
+
+-- ---- the two tests
+
+pub is-issue-no-choice : {d h m : ℕ} {r s : Bool} → IsIssuePromise d h m r → IsIssuePromise d h m s → r ≡ s
+is-issue-no-choice p q = p .says ∙ sym (q .says)
+
+pub is-duration-no-choice : {m : ℕ} {r s : Bool} → IsDurationPromise m r → IsDurationPromise m s → r ≡ s
+is-duration-no-choice p q = p .says ∙ sym (q .says)

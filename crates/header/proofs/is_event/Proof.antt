@@ -1,0 +1,56 @@
+-- `header::is_event` meets its contract: the test of the bytes that are left says what the test of all says. Assumes nothing.
+use mathlib.Core.Path.{sym, _∙_}
+use Prim.Native.Nat.{_-_}
+use native.Mathlib.Omega.{arith}
+use borrow.Author.Tests.{not-true, not-false}
+use lib.ListN.{length}
+use Rattle.laws.proofs.Every.{Left, begun, passed, failed, ended}
+use Rattle.laws.specs.Numbers.{within}
+use borrow.Author.Needs.{needs}
+use Rattle.header.proofs.is_event.Statement.{statement}
+use Rattle.header.proofs.is_event.Tie as tie
+
+abbrev Inv-loop : tie.InvT-loop
+Inv-loop b k₀ k = Left (within 65 90) b k
+
+abbrev μ-loop : tie.MeasureT-loop
+μ-loop b k₀ k = length b - k
+
+loop-holds : tie.Need-loop-holds Inv-loop μ-loop
+loop-holds c = begun (within 65 90) _
+
+shared-slice-read-between : tie.Need-shared-slice-read-between Inv-loop μ-loop
+shared-slice-read-between c = omega arith
+
+between-requires : tie.Need-between-requires Inv-loop μ-loop
+between-requires c κs = search needs
+
+returns : tie.Need-returns Inv-loop μ-loop
+returns c = sym (failed (within 65 90) _ _ (c .before .before .before .loop-test .taken) (sym (c .before .between .ensures .says) ∙ not-true (c .before .between .result) (c .if1 .taken)) (c .before .before .before .before .loop .inv))
+
+add-k : tie.Need-add-k Inv-loop μ-loop
+add-k c = omega arith
+
+loop-less : tie.Need-loop-less Inv-loop μ-loop
+loop-less c = omega arith
+
+loop-again : tie.Need-loop-again Inv-loop μ-loop
+loop-again c = passed (within 65 90) _ _ (c .before .before .before .loop-test .taken) (sym (c .before .between .ensures .says) ∙ not-false (c .before .between .result) (c .if1 .left)) (c .before .before .before .before .loop .inv)
+
+returns-2 : tie.Need-returns-2 Inv-loop μ-loop
+returns-2 c = sym (ended (within 65 90) _ _ (c .loop-test .left) (c .before .loop .inv))
+
+pub is-event-spec : {M : Type 1} → statement M
+is-event-spec =
+    tie.close
+    (tie.spec
+    Inv-loop
+    μ-loop
+    loop-holds
+    shared-slice-read-between
+    between-requires
+    returns
+    add-k
+    loop-less
+    loop-again
+    returns-2)

@@ -1,0 +1,56 @@
+-- `header::is_sender` meets its contract: the test of the bytes that are left says what the test of all says. Assumes nothing.
+use mathlib.Core.Path.{sym, _∙_}
+use Prim.Native.Nat.{_-_}
+use native.Mathlib.Omega.{arith}
+use borrow.Author.Tests.{not-true, not-false}
+use lib.ListN.{length}
+use Rattle.laws.proofs.Every.{Left, begun, passed, failed, ended}
+use Rattle.header.specs.Header.{isSenderByte}
+use borrow.Author.Needs.{needs}
+use Rattle.header.proofs.is_sender.Statement.{statement}
+use Rattle.header.proofs.is_sender.Tie as tie
+
+abbrev Inv-loop : tie.InvT-loop
+Inv-loop b k₀ k = Left isSenderByte b k
+
+abbrev μ-loop : tie.MeasureT-loop
+μ-loop b k₀ k = length b - k
+
+loop-holds : tie.Need-loop-holds Inv-loop μ-loop
+loop-holds c = begun isSenderByte _
+
+shared-slice-read-sender-byte : tie.Need-shared-slice-read-sender-byte Inv-loop μ-loop
+shared-slice-read-sender-byte c = omega arith
+
+sender-byte-requires : tie.Need-sender-byte-requires Inv-loop μ-loop
+sender-byte-requires c κs = search needs
+
+returns : tie.Need-returns Inv-loop μ-loop
+returns c = sym (failed isSenderByte _ _ (c .before .before .before .loop-test .taken) (sym (c .before .sender-byte .ensures) ∙ not-true (c .before .sender-byte .result) (c .if1 .taken)) (c .before .before .before .before .loop .inv))
+
+add-k : tie.Need-add-k Inv-loop μ-loop
+add-k c = omega arith
+
+loop-less : tie.Need-loop-less Inv-loop μ-loop
+loop-less c = omega arith
+
+loop-again : tie.Need-loop-again Inv-loop μ-loop
+loop-again c = passed isSenderByte _ _ (c .before .before .before .loop-test .taken) (sym (c .before .sender-byte .ensures) ∙ not-false (c .before .sender-byte .result) (c .if1 .left)) (c .before .before .before .before .loop .inv)
+
+returns-2 : tie.Need-returns-2 Inv-loop μ-loop
+returns-2 c = sym (ended isSenderByte _ _ (c .loop-test .left) (c .before .loop .inv))
+
+pub is-sender-spec : {M : Type 1} → statement M
+is-sender-spec =
+    tie.close
+    (tie.spec
+    Inv-loop
+    μ-loop
+    loop-holds
+    shared-slice-read-sender-byte
+    sender-byte-requires
+    returns
+    add-k
+    loop-less
+    loop-again
+    returns-2)

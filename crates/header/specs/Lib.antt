@@ -1,0 +1,6 @@
+pub mod Header
+pub mod Reading
+pub mod Writing
+pub mod Answers
+pub mod Promise
+pub mod Steps

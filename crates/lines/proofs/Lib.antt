@@ -1,0 +1,10 @@
+pub mod Ends
+pub mod Pieces
+pub mod Next
+pub mod LineByLine
+pub mod Tags
+pub mod Forms
+pub mod Headers
+pub mod Cut
+pub mod Samples
+pub mod NoChoice

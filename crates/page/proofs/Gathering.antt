@@ -1,0 +1,143 @@
+-- The loop that gathers the words of the `sub=` lines: what is gathered is added first, and then what is left has its say. Assumes nothing.
+use mathlib.Core.Path.{_≡_, refl, sym, ap, _∙_}
+use mathlib.Core.Bool.{Bool, true, false}
+use mathlib.Core.List.{List, [], _∷_, _++_, append-assoc}
+use Prim.Native.Nat.{ℕ, zero, suc, _+_, _*_, _≤_, _<_}
+use native.Mathlib.Omega.{arith}
+use lib.ListN.{length, take, drop, set, length-append, length-set}
+use lib.Seq.{length-take-le, take-at}
+use Rattle.laws.specs.Order.{Said, granted, refused, refusedAt, next, choose}
+use Rattle.laws.specs.Space.{pasted}
+use Rattle.laws.proofs.Next.{next-next, next-granted, next-by}
+use Rattle.laws.proofs.Pasted.{pasted-one, pasted-two, pasted-length}
+use Rattle.lines.specs.Lines.{pieces}
+use Rattle.lines.specs.Forms.{subLine}
+use Rattle.lines.specs.LineByLine.{eachLine}
+use Rattle.lines.specs.Next.{nextOf}
+use Rattle.lines.proofs.LineByLine.{each-took, each-bad, each-done}
+use Rattle.lines.proofs.Next.{took-in}
+use Rattle.rules.specs.Form.{plain}
+use Rattle.rules.specs.Rules.{empty}
+use Rattle.rules.specs.Edits.{addSays, added}
+use Rattle.rules.specs.Load.{Sub, sub, items, addAll, loadSays}
+use Rattle.history.proofs.Proved.{plain-book-and-history}
+use Rattle.page.specs.Input.{adds}
+use Rattle.page.specs.Steps.{gatheredSays}
+
+-- ---- items, three words each
+
+pub items-more : (l : List ℕ) (n p c v : ℕ) → length l ≡ 3 * n → items (l ++ (p ∷ c ∷ v ∷ [])) ≡ items l ++ (sub p c v ∷ [])
+items-more [] n p c v h = refl
+items-more (a ∷ []) n p c v h = absurd (omega arith)
+items-more (a ∷ b ∷ []) n p c v h = absurd (omega arith)
+items-more (a ∷ b ∷ d ∷ l) zero p c v h = absurd (omega arith)
+items-more (a ∷ b ∷ d ∷ l) (suc n) p c v h = ap (λ (s : List Sub). sub a b d ∷ s) (items-more l n p c v (omega arith))
+
+items-length : (l : List ℕ) (n : ℕ) → length l ≡ 3 * n → length (items l) ≡ n
+items-length [] n h = omega arith
+items-length (a ∷ []) n h = absurd (omega arith)
+items-length (a ∷ b ∷ []) n h = absurd (omega arith)
+items-length (a ∷ b ∷ d ∷ l) zero h = absurd (omega arith)
+items-length (a ∷ b ∷ d ∷ l) (suc n) h = ap suc (items-length l n (omega arith))
+
+-- one addition more
+add-more : (w : List ℕ) (xs : List Sub) (p c v : ℕ) → addAll plain w (xs ++ (sub p c v ∷ [])) ≡ next (addAll plain w xs) (λ b. adds b (p, (c, v)))
+unfolding addAll
+add-more w [] p c v = refl
+add-more w (x ∷ xs) p c v =
+    by (addSays plain w (x .place) (x .client) (x .wish)) (add-more (added plain (x .place) (x .client) (x .wish) w) xs p c v)
+    ∙ sym (next-next (addSays plain w (x .place) (x .client) (x .wish)) (λ u. addAll plain (added plain (x .place) (x .client) (x .wish) w) xs) (λ b. adds b (p, (c, v))))
+  where
+    by : (o : Said (Unit {0})) → addAll plain (added plain (x .place) (x .client) (x .wish) w) (xs ++ (sub p c v ∷ [])) ≡ next (addAll plain (added plain (x .place) (x .client) (x .wish) w) xs) (λ b. adds b (p, (c, v)))
+        → next o (λ u. addAll plain (added plain (x .place) (x .client) (x .wish) w) (xs ++ (sub p c v ∷ [])))
+        ≡ next o (λ u. next (addAll plain (added plain (x .place) (x .client) (x .wish) w) xs) (λ b. adds b (p, (c, v))))
+    by (granted u) k = k
+    by (refused n) k = refl
+    by (refusedAt n i) k = refl
+
+-- a load of words into an empty book is their items added
+pub load-empty : (list : List ℕ) → loadSays plain empty list ≡ addAll plain empty (items list)
+unfolding loadSays
+load-empty list = rw (plain-book-and-history .the-book .of-none .keeps)
+
+-- more than 4,096 are never granted
+pub never : (list : List ℕ) (n : ℕ) (b : List ℕ) → length list ≡ 3 * n → 4096 < n → addAll plain empty (items list) ≡ granted b → ⊥
+never list n b h l e =
+    let k = plain-book-and-history .load-is-building empty list .granted-only b (load-empty list ∙ e) in
+    omega (arith, k .0 .few, items-length list n h)
+
+-- ---- three words stored
+
+pub three-stores : (d : List ℕ) (at x y z : ℕ) → at + 3 ≤ length d → set (set (set d at x) (at + 1) y) (at + 2) z ≡ pasted d at (x ∷ y ∷ z ∷ [])
+three-stores d at x y z h =
+    let e : set (set d at x) (at + 1) y ≡ pasted d at (x ∷ y ∷ []) =
+    pasted-one (set d at x) (at + 1) y (rw length-set (omega arith))
+    ∙ ap (λ (l : List ℕ). pasted l (at + 1) (y ∷ [])) (pasted-one d at x (omega arith))
+    ∙ pasted-two d at (x ∷ []) (y ∷ []) (omega arith) in
+    ap (λ (l : List ℕ). set l (at + 2) z) e
+    ∙ pasted-one (pasted d at (x ∷ y ∷ [])) (at + 2) z (rw (pasted-length d at (x ∷ y ∷ []) (omega arith)) (omega arith))
+    ∙ pasted-two d at (x ∷ y ∷ []) (z ∷ []) (omega arith)
+
+pasted-front : (d : List ℕ) (at : ℕ) (s : List ℕ) (n : ℕ) → at + length s ≤ length d → n ≡ at + length s → take n (pasted d at s) ≡ take at d ++ s
+unfolding pasted
+pasted-front d at s n h e =
+    ap (take n) (sym (append-assoc (take at d) s (drop (at + length s) d)))
+    ∙ take-at (take at d ++ s) (drop (at + length s) d) n (length-append (take at d) s ∙ omega (arith, length-take-le at d (omega arith)))
+
+-- ---- the loop
+
+pub record Gathering (t : List ℕ) (at : ℕ) (words : List ℕ) (count i : ℕ) : Type 0 where
+  pub inside : i ≤ length t
+  pub few : count ≤ 4097
+  pub len : length words ≡ 12291
+  pub whole : next (addAll plain empty (items (take (3 * count) words))) (λ b. eachLine subLine adds b (pieces (drop i t))) ≡ eachLine subLine adds empty (pieces (drop at t))
+
+pub begun : (t : List ℕ) (at : ℕ) (words : List ℕ) → at ≤ length t → length words ≡ 12291 → Gathering t at words 0 at
+unfolding addAll
+begun t at words h l = record { inside = h; few = omega arith; len = l; whole = refl }
+
+module _ (t : List ℕ) (at : ℕ) (words : List ℕ) (count i : ℕ) (g : Gathering t at words count i) where
+  taken : length (take (3 * count) words) ≡ 3 * count
+  taken = length-take-le (3 * count) words (omega (arith, g .len, g .few))
+
+  -- nothing is left
+  pub all-gathered : length t ≤ i → gatheredSays (take (3 * count) words) true ≡ eachLine subLine adds empty (pieces (drop at t))
+  all-gathered h =
+      next-by (addAll plain empty (items (take (3 * count) words))) (λ b. granted b) (λ b. eachLine subLine adds b (pieces (drop i t)))
+      (λ b e. sym (each-done subLine adds b t i h))
+      ∙ g .whole
+
+  -- the next line is malformed
+  pub cut-short : i < length t → nextOf subLine t i ≡ refused 23 → gatheredSays (take (3 * count) words) false ≡ eachLine subLine adds empty (pieces (drop at t))
+  cut-short h e =
+      next-by (addAll plain empty (items (take (3 * count) words))) (λ b. refused 23) (λ b. eachLine subLine adds b (pieces (drop i t)))
+      (λ b q. sym (each-bad subLine adds b t i h e))
+      ∙ g .whole
+
+  -- more than a book can hold: the rest has no say
+  pub too-many : 4096 < count → gatheredSays (take (3 * count) words) true ≡ eachLine subLine adds empty (pieces (drop at t))
+  too-many h =
+      next-by (addAll plain empty (items (take (3 * count) words))) (λ b. granted b) (λ b. eachLine subLine adds b (pieces (drop i t)))
+      (λ b e. absurd (never (take (3 * count) words) count b taken h e))
+      ∙ g .whole
+
+  -- one line more
+  pub went : (p c v j : ℕ) (words′ : List ℕ) → i < length t → count ≤ 4096 → nextOf subLine t i ≡ granted ((p, (c, v)), j) → words′ ≡ pasted words (3 * count) (p ∷ c ∷ v ∷ [])
+      → Gathering t at words′ (count + 1) j
+  went p c v j words′ h l e q =
+      let r : 3 * count + 3 ≤ length words = omega (arith, g .len) in
+      let w : take (3 * (count + 1)) words′ ≡ take (3 * count) words ++ (p ∷ c ∷ v ∷ []) =
+      ap (take (3 * (count + 1))) q ∙ pasted-front words (3 * count) (p ∷ c ∷ v ∷ []) (3 * (count + 1)) r (omega arith) in
+      let x : items (take (3 * (count + 1)) words′) ≡ items (take (3 * count) words) ++ (sub p c v ∷ []) = ap items w ∙ items-more (take (3 * count) words) count p c v taken in
+      record {
+        inside = took-in subLine t i (p, (c, v)) j e .1;
+        few = omega arith;
+        len = ap length q ∙ pasted-length words (3 * count) (p ∷ c ∷ v ∷ []) r ∙ g .len;
+        whole =
+            ap (λ (s : List Sub). next (addAll plain empty s) (λ b. eachLine subLine adds b (pieces (drop j t)))) x
+            ∙ ap (λ (o : Said (List ℕ)). next o (λ b. eachLine subLine adds b (pieces (drop j t)))) (add-more empty (items (take (3 * count) words)) p c v)
+            ∙ next-next (addAll plain empty (items (take (3 * count) words))) (λ b. adds b (p, (c, v))) (λ b. eachLine subLine adds b (pieces (drop j t)))
+            ∙ next-by (addAll plain empty (items (take (3 * count) words))) (λ b. next (adds b (p, (c, v))) (λ s. eachLine subLine adds s (pieces (drop j t)))) (λ b. eachLine subLine adds b (pieces (drop i t)))
+            (λ b o. sym (each-took subLine adds b t i h (p, (c, v)) j e))
+            ∙ g .whole;
+      }

@@ -1,0 +1,5 @@
+pub mod Gathering
+pub mod Fronts
+pub mod Finishes
+pub mod Booking
+pub mod Pages

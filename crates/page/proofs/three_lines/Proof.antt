@@ -1,0 +1,69 @@
+-- `page::three_lines` meets its contract. Assumes nothing.
+use mathlib.Core.Path.{sym, ap, _∙_}
+use borrow.Author.Needs.{needs}
+use Rattle.lines.specs.Answers.{saidNow, saidClient, saidHeader}
+use Rattle.page.proofs.Fronts.{front-1, front-2, front-3, front-4}
+use borrow.Author.Needs.{needs}
+use Rattle.page.proofs.three_lines.Statement.{statement}
+use Rattle.page.proofs.three_lines.Tie as tie
+
+now-line-requires : tie.Need-now-line-requires
+now-line-requires c κs = search needs
+
+enum-known-year : tie.Need-enum-known-year
+enum-known-year c = search needs
+
+enum-told : tie.Need-enum-told
+enum-told c = search needs
+
+returns : tie.Need-returns
+returns c = front-1 _ (sym (c .before .before .now-line .ensures .says) ∙ ap saidNow (c .enum-told .given .1))
+
+client-line-requires : tie.Need-client-line-requires
+client-line-requires c κs = search needs
+
+enum-known-client : tie.Need-enum-known-client
+enum-known-client c = search needs
+
+enum-told-2 : tie.Need-enum-told-2
+enum-told-2 c = search needs
+
+returns-2 : tie.Need-returns-2
+returns-2 c = front-2 _ _ _ (sym (c .before .before .before .before .before .before .now-line .ensures .says) ∙ ap saidNow (c .before .before .before .before .year .given .1)) (sym (c .before .before .client-line .ensures .says) ∙ ap saidClient (c .enum-told2 .given .1))
+
+header-line-requires : tie.Need-header-line-requires
+header-line-requires c κs = search needs
+
+enum-known-from : tie.Need-enum-known-from
+enum-known-from c = search needs
+
+enum-told-3 : tie.Need-enum-told-3
+enum-told-3 c = search needs
+
+returns-3 : tie.Need-returns-3
+returns-3 c =
+    front-3 _ _ _ (sym (c .before .before .before .before .before .before .before .before .before .before .now-line .ensures .says) ∙ ap saidNow (c .before .before .before .before .before .before .before .before .year .given .1)) _ _ (sym (c .before .before .before .before .before .before .client-line .ensures .says) ∙ ap saidClient (c .before .before .before .before .client .given .1))
+    (sym (c .before .before .header-line .ensures .says) ∙ ap saidHeader (c .enum-told3 .given .1))
+
+returns-4 : tie.Need-returns-4
+returns-4 c =
+    front-4 _ _ _ (sym (c .before .before .before .before .before .before .before .before .before .before .before .now-line .ensures .says) ∙ ap saidNow (c .before .before .before .before .before .before .before .before .before .year .given .1)) _ _ (sym (c .before .before .before .before .before .before .before .client-line .ensures .says) ∙ ap saidClient (c .before .before .before .before .before .client .given .1))
+    _ _ _ (sym (c .before .before .before .header-line .ensures .says) ∙ ap saidHeader (c .before .from .given .1))
+
+pub three-lines-spec : {M : Type 1} → statement M
+three-lines-spec =
+    tie.close
+    (tie.spec
+    now-line-requires
+    enum-known-year
+    enum-told
+    returns
+    client-line-requires
+    enum-known-client
+    enum-told-2
+    returns-2
+    header-line-requires
+    enum-known-from
+    enum-told-3
+    returns-3
+    returns-4)

@@ -1,0 +1,4 @@
+pub mod Input
+pub mod Page
+pub mod Promise
+pub mod Steps

@@ -1,0 +1,180 @@
+// The report program as a function on bytes: an input's lines to the printed page.
+ghost use mathlib.Core.Path.{_≡_};
+ghost use Prim.Native.Nat.{_+_, _*_, _≤_};
+ghost use mathlib.Core.List.{_∷_, []};
+ghost use lib.ListN.{length, take, drop};
+ghost use Rattle.laws.specs.Space.{pasted};
+ghost use Rattle.lines.specs.Lines.{pieces};
+ghost use Rattle.lines.specs.Forms.{subLine};
+ghost use Rattle.lines.specs.LineByLine.{eachLine};
+ghost use Rattle.rules.specs.Rules.{empty};
+ghost use Rattle.printing.specs.Page.{pageText};
+ghost use Rattle.printing.specs.Promise.{PrintPromise};
+ghost use Rattle.page.specs.Input.{adds, reportShows};
+ghost use Rattle.page.specs.Page.{printed};
+ghost use Rattle.page.specs.Promise.{PagePromise};
+ghost use Rattle.page.specs.Steps.{FrontOf, GatheredOf, booked, refusalOf};
+use book::Edited;
+use lines::ClientLine;
+use lines::HeaderLine;
+use lines::NowLine;
+use lines::SubLine;
+use printing::Printed;
+use report::Summary;
+use report::Verdict;
+
+// Year, day, hour, minute, client, and where the header's bytes start and end.
+enum Front {
+    Three(u32, u32, u32, u32, u32, usize, usize),
+    Malformed,
+}
+
+// How many items were gathered, and whether the lines went on to their end in good form.
+struct Gathered {
+    count: usize,
+    whole: bool,
+}
+
+// The first three lines.
+fn three_lines(input: &[u8]) -> Front
+    ensures { λ r. ⌜ FrontOf (now (input .entry)) r ⌝ }
+{
+    let NowLine::At {
+        year,
+        day,
+        hour,
+        minute,
+        next,
+    } = lines::now_line(input, 0)
+    else {
+        return Front::Malformed;
+    };
+    let ClientLine::Client {
+        client,
+        next: third,
+    } = lines::client_line(input, next)
+    else {
+        return Front::Malformed;
+    };
+    let HeaderLine::Header { from, to, next: _ } = lines::header_line(input, third) else {
+        return Front::Malformed;
+    };
+    Front::Three(year, day, hour, minute, client, from, to)
+}
+
+// One item's three words.
+fn put_item(words: &mut [u32], n: usize, place: u32, client: u32, wish: u32)
+    requires { ⌜ (3 * n + 3 ≤ length (now words)) × (n ≤ 4096) ⌝ }
+    ensures { λ _. ⌜ now (words .exit) ≡ pasted (now (words .entry)) (3 * n) (place ∷ client ∷ wish ∷ []) ⌝ }
+{
+    let at = 3 * n;
+    words[at] = place;
+    words[at + 1] = client;
+    words[at + 2] = wish;
+}
+
+// The words of the `sub=` lines from index at on, three an item, up to the first that is malformed. One item more than a book can
+// hold is enough: the load refuses one of them, and what follows has no say.
+fn gather(input: &[u8], at: usize, words: &mut [u32]) -> Gathered
+    requires { ⌜ (at ≤ length (now input)) × (length (now words) ≡ 12291) ⌝ }
+    ensures { λ r. ⌜ GatheredOf (now (input .entry)) at r (now (words .exit)) ⌝ }
+{
+    let mut count: usize = 0;
+    let mut i = at;
+    while i < input.len() {
+        if 4096 < count {
+            return Gathered { count, whole: true };
+        }
+        let SubLine::Sub {
+            place,
+            client,
+            wish,
+            next,
+        } = lines::sub_line(input, i)
+        else {
+            return Gathered {
+                count,
+                whole: false,
+            };
+        };
+        put_item(words, count, place, client, wish);
+        count += 1;
+        i = next;
+    }
+    Gathered { count, whole: true }
+}
+
+// Adds the `sub=` lines from index at on to an empty book. One load builds it, so that the book is not checked at every line.
+fn add_subs(input: &[u8], at: usize, book: &mut [u32]) -> Edited
+    requires { ⌜ (at ≤ length (now input)) × (now book ≡ empty) ⌝ }
+    ensures { λ r. ⌜ booked r (now (book .exit)) ≡ eachLine subLine adds empty (pieces (drop at (now (input .entry)))) ⌝ }
+{
+    let mut words = [0u32; 12291];
+    let gathered = gather(input, at, &mut words);
+    let n = 3 * gathered.count;
+    let edited = book::load(book, &words[..n]);
+    let Edited::Done = edited else {
+        return edited;
+    };
+    if !gathered.whole {
+        return Edited::Refused(23);
+    }
+    Edited::Done
+}
+
+// The number of a refused edit.
+fn refusal_of(e: Edited) -> u32
+    ensures { λ r. ⌜ r ≡ refusalOf e ⌝ }
+{
+    match e {
+        Edited::Done => 0,
+        Edited::Refused(n) => n,
+    }
+}
+
+// Prints a granted report: its summary, and the pairs of place and wish that it wrote.
+fn show(out: &mut [u8], client: u32, s: Summary, hits: &[u32]) -> Printed
+    requires { ⌜ (2 * s .hits ≤ length (now hits)) × (s .hits ≤ 4096) ⌝ }
+    ensures { λ r. ⌜ PrintPromise (pageText client (s .times) (s .event) (s .listed) (s .class) (take (2 * s .hits) (now (hits .entry)))) (now (out .entry)) r (now (out .exit)) ⌝ }
+{
+    let n = 2 * s.hits;
+    let times = s.times;
+    let event = s.event;
+    printing::print_page(out, client, times, &event, s.listed, s.class, &hits[..n])
+}
+
+// The report, and what is printed of it. There is room for the hits of a full book.
+fn finish(book: &[u32], client: u32, header: &[u8], at: clock::Clock, out: &mut [u8]) -> Printed
+    ensures { λ r. ⌜ PrintPromise (printed (reportShows (now (book .entry)) client (now (header .entry)) at)) (now (out .entry)) r (now (out .exit)) ⌝ }
+{
+    let mut hits = [0u32; 8192];
+    let r = report::report(book, client, header, at, &mut hits);
+    let verdict = r.verdict;
+    match verdict {
+        Verdict::Granted => show(out, client, r.summary, &hits),
+        Verdict::Refused(n) => printing::print_refusal(out, n),
+        Verdict::RefusedAt(n, _) => printing::print_refusal(out, n),
+    }
+}
+
+// The page of an input, printed to the front of out; or 13, and nothing is written.
+pub fn page(input: &[u8], out: &mut [u8]) -> Printed
+    ensures { λ r. ⌜ PagePromise (now (input .entry)) (now (out .entry)) r (now (out .exit)) ⌝ }
+{
+    let front = three_lines(input);
+    let Front::Three(year, day, hour, minute, client, from, to) = front else {
+        return printing::print_refusal(out, 23);
+    };
+    let mut book = [0u32; 8293];
+    let edited = add_subs(input, to + 1, &mut book);
+    let Edited::Done = edited else {
+        return printing::print_refusal(out, refusal_of(edited));
+    };
+    let at = clock::Clock {
+        year,
+        day,
+        hour,
+        minute,
+    };
+    finish(&book, client, &input[from..to], at, out)
+}

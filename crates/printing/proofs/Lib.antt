@@ -1,0 +1,5 @@
+pub mod Writing
+pub mod Hits
+pub mod Pages
+pub mod Samples
+pub mod NoChoice

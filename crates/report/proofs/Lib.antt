@@ -1,0 +1,7 @@
+pub mod Spans
+pub mod Stages
+pub mod Kept
+pub mod Exact
+pub mod Own
+pub mod NoChoice
+pub mod Given
