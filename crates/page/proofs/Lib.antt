@@ -3,3 +3,7 @@ pub mod Fronts
 pub mod Finishes
 pub mod Booking
 pub mod Pages
+pub mod NoChoice
+pub mod Cut
+pub mod Own
+pub mod Room
