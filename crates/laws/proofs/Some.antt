@@ -1,30 +1,33 @@
--- The loop that looks for an entry that passes a test: what is left says what the whole says. Assumes nothing.
+-- Some entry passes a test where not every entry fails it; and the loop that looks for one. Assumes nothing.
 use Prim.Native.Nat.{ℕ, _+_, _≤_, _<_}
-use mathlib.Core.Path.{_≡_, refl, sym, ap, _∙_}
+use mathlib.Core.Path.{_≡_, refl, ap, _∙_}
 use mathlib.Core.List.{List, [], _∷_}
-use mathlib.Core.Bool.{Bool, true, false, _||_}
-use native.Mathlib.Numerals.{add-one}
-use native.Mathlib.Omega.{arith}
-use lib.ListN.{length, getD, drop, drop-of-length-le}
-use lib.Seq.{drop-cons}
-use Rattle.laws.specs.Lists.{some}
+use mathlib.Core.Bool.{Bool, true, false, not, _&&_, _||_}
+use lib.ListN.{length, getD}
+use Rattle.laws.specs.Lists.{some, every}
+use Rattle.laws.proofs.Every.{Left, begun as all-begun, passed as all-passed, failed, ended as all-ended}
 
-pub record Rest (p : ℕ → Bool) (b : List ℕ) (k : ℕ) : Type 0 where
-  pub low : k ≤ length b
-  pub all : some p (drop k b) ≡ some p b
+pub some-every : {A : Type 0} (p : A → Bool) (b : List A) → some p b ≡ not (every (λ x. not (p x)) b)
+some-every p [] = refl
+some-every p (x ∷ xs) = by (p x) (some-every p xs)
+  where
+    by : (t : Bool) → some p xs ≡ not (every (λ x. not (p x)) xs) → t || some p xs ≡ not (not t && every (λ x. not (p x)) xs)
+    by true e = refl
+    by false e = e
+
+-- none passed so far
+abbrev pub Rest : (ℕ → Bool) → List ℕ → ℕ → Type 0
+Rest p b k = Left (λ x. not (p x)) b k
 
 module _ (p : ℕ → Bool) (b : List ℕ) where
   pub begun : Rest p b 0
-  begun = record { low = omega arith; all = refl }
-
-  cut : (k : ℕ) → k < length b → drop k b ≡ getD b k 0 ∷ drop (k + 1) b
-  cut k h = drop-cons b k 0 h ∙ rw add-one
+  begun = all-begun (λ x. not (p x)) b
 
   pub passed : (k : ℕ) → k < length b → p (getD b k 0) ≡ false → Rest p b k → Rest p b (k + 1)
-  passed k h t l = record { low = omega arith; all = sym (ap (some p) (cut k h) ∙ simp t) ∙ l .all }
+  passed k h t l = all-passed (λ x. not (p x)) b k h (ap not t) l
 
   pub found : (k : ℕ) → k < length b → p (getD b k 0) ≡ true → Rest p b k → some p b ≡ true
-  found k h t l = sym (l .all) ∙ ap (some p) (cut k h) ∙ simp t
+  found k h t l = some-every p b ∙ ap not (failed (λ x. not (p x)) b k h (ap not t) l)
 
   pub ended : (k : ℕ) → length b ≤ k → Rest p b k → some p b ≡ false
-  ended k h l = sym (l .all) ∙ ap (some p) (drop-of-length-le b h)
+  ended k h l = some-every p b ∙ ap not (all-ended (λ x. not (p x)) b k h l)
