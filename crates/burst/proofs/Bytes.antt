@@ -1,6 +1,6 @@
 -- A byte is the number of its eight bits. Assumes nothing.
 use mathlib.Core.Path.{_≡_, refl, sym, ap₂, _∙_}
-use mathlib.Core.Logic.{_⊎_, ⊎-elim}
+use mathlib.Core.Logic.{⊎-elim}
 use Prim.Native.Nat.{ℕ, zero, suc, _+_, _*_, _%_, _^_, _<_}
 use native.Mathlib.Numerals.{one-add}
 use native.Mathlib.Nat.{mod-eq-of-lt}

@@ -1,5 +1,5 @@
 -- What the private steps of the vote do, over stripped bursts.
-use Prim.Native.Nat.{ℕ, _+_, _-_}
+use Prim.Native.Nat.{ℕ, _-_}
 use mathlib.Core.Bool.{Bool, false, not}
 use mathlib.Core.List.{List, _++_}
 use mathlib.Core.Path.{_≡_}

@@ -1,15 +1,13 @@
 -- What the tests of clocks, issues and durations say as numbers. Assumes nothing.
-use mathlib.Core.Path.{_≡_, refl}
-use mathlib.Core.Bool.{Bool, true, false, _&&_, _||_}
-use mathlib.Core.List.{[], _∷_}
-use Prim.Native.Nat.{ℕ, _/_, _%_, _≤_}
+use mathlib.Core.Path.{_≡_}
+use mathlib.Core.Bool.{Bool, true, false, _&&_}
+use Prim.Native.Nat.{ℕ, _≤_}
 use native.Mathlib.Omega.{arith}
-use lib.Dec.{eqb, leb}
-use borrow.Author.Tests.{leb-true, eqb-true}
-use Rattle.laws.specs.Lists.{some}
+use lib.Dec.{leb}
+use borrow.Author.Tests.{leb-true}
 use Rattle.laws.specs.Numbers.{within}
 use Rattle.laws.specs.Order.{choose}
-use Rattle.laws.proofs.Tests.{and-l, and-r, within-lo, within-hi, within-i, impossible}
+use Rattle.laws.proofs.Tests.{and-l, and-r, within-lo, within-hi, within-i}
 use Rattle.clock.specs.Clock.{leap, daysIn, hasDay, isClock}
 use Rattle.header.specs.Header.{isIssue}
 use Rattle.header.proofs.Allowed.{issued}

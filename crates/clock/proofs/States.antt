@@ -1,7 +1,7 @@
 -- Exactly one of early, live and expired holds, and the state is that one. Assumes nothing.
 use mathlib.Core.Path.{_≡_, sym, _∙_}
 use mathlib.Core.Logic.{⊎-elim}
-use Prim.Native.Nat.{ℕ, _+_, _≤_, _<_}
+use Prim.Native.Nat.{ℕ, _+_}
 use Rattle.laws.proofs.Tests.{le-or-lt}
 use Rattle.clock.specs.Lifetime.{stateOf}
 use Rattle.clock.specs.Meaning.{Holds}

@@ -1,7 +1,6 @@
 -- The end of a header is its issue plus its duration as a moment, also over New Year; and a moment is that of one time only. Assumes nothing.
 use mathlib.Core.Path.{_≡_, ap, _∙_}
 use mathlib.Core.Logic.{⊎-elim}
-use mathlib.Core.Bool.{true}
 use Prim.Native.Nat.{ℕ, zero, suc, _+_, _/_, _≤_, _<_}
 use native.Mathlib.Omega.{arith}
 use Rattle.laws.proofs.Tests.{le-or-lt}
@@ -10,13 +9,10 @@ use Rattle.clock.specs.Lifetime.{stampOf, timesOf, yearOf, minuteOf, day
 use Rattle.clock.specs.Steps.{OfYear, Fit}
 use Rattle.clock.specs.Meaning.{Exists, Printable}
 use Rattle.clock.specs.declared.Clock.{Clock}
-use Rattle.clock.specs.declared.Stamp.{Stamp}
-use Rattle.clock.specs.declared.Times.{Times}
 use Rattle.header.proofs.Callers.{duration-bounds}
 use Rattle.clock.proofs.Ranges.{has-day-low, has-day-high, issue-of-year}
 use Rattle.clock.specs.Calendar.{dateOf}
 use Rattle.laws.proofs.Tests.{within-lo, within-hi}
-use Rattle.clock.specs.declared.MonthDay.{MonthDay}
 use Rattle.clock.proofs.Dates.{date-range}
 use Rattle.clock.proofs.Moments.{this-year, next-year, time-exists, time-moment}
 

@@ -2,15 +2,13 @@
 use Prim.Native.Nat.{ℕ, zero, suc, _+_, _-_, _*_, _/_, _%_, _^_, _≤_, _<_}
 use mathlib.Core.Path.{_≡_, refl, sym, ap, _∙_}
 use mathlib.Core.List.{List, [], _∷_, _++_}
-use mathlib.Core.Bool.{Bool, true, false, _&&_}
+use mathlib.Core.Bool.{true, _&&_}
 use native.Mathlib.Nat.{pow-suc}
 use native.Mathlib.Omega.{arith}
 use lib.ListN.{length, getD, take, set, length-append, length-set}
 use lib.Seq.{take-suc, take-all, length-take-le}
-use lib.Dec.{ltb}
-use borrow.Author.Tests.{lt-ltb, le-ltb}
 use Rattle.laws.specs.Lists.{every}
-use Rattle.laws.specs.Numbers.{digit, decFrom, dig, size, sizeBy}
+use Rattle.laws.specs.Numbers.{digit, decFrom, dig}
 use Rattle.laws.specs.Space.{pasted}
 use Rattle.laws.proofs.Tests.{and-l, and-r, within-lo, within-hi, within-i}
 use Rattle.laws.proofs.Every.{every-append}

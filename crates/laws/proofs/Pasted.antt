@@ -1,11 +1,11 @@
 -- Text pasted over lent space, piece by piece: what is left to write, pasted at its index, gives the whole. Assumes nothing.
-use Prim.Native.Nat.{ℕ, zero, suc, _+_, _-_, _≤_, _<_}
+use Prim.Native.Nat.{ℕ, suc, _+_, _≤_, _<_}
 use mathlib.Core.Path.{_≡_, refl, sym, ap, _∙_}
 use mathlib.Core.List.{List, [], _∷_, _++_, append-assoc}
 use native.Mathlib.Nat.{add-zero}
 use native.Mathlib.Numerals.{add-one}
 use native.Mathlib.Omega.{arith}
-use lib.ListN.{length, getD, take, drop, set, length-append, length-drop, take-append-drop, length-set}
+use lib.ListN.{length, take, drop, set, length-append, length-drop, take-append-drop, length-set}
 use lib.Seq.{length-take-le, take-at, drop-at, drop-drop, set-split, take-set-le, drop-set-lt, drop-cons, getD-set-same}
 use Rattle.laws.specs.Space.{pasted}
 

@@ -18,7 +18,7 @@ use Rattle.book.specs.Answer.{said}
 use Rattle.book.specs.declared.Edited.{Edited}
 use Rattle.book.specs.declared.Edited.the-variants.{Done, Refused}
 use Rattle.page.specs.Input.{adds}
-use Rattle.page.specs.Steps.{gatheredSays, GatheredOf, booked}
+use Rattle.page.specs.Steps.{GatheredOf, booked}
 use Rattle.page.specs.declared.Gathered.{Gathered}
 use Rattle.page.proofs.Gathering.{load-empty}
 

@@ -1,8 +1,8 @@
 -- The page of an input is that of its first 98,304 bytes: at most 4,096 additions are granted, a `sub=` line has 19 bytes, and any other
 -- line that is read at most 301. Assumes nothing.
-use mathlib.Core.Path.{_≡_, refl, sym, ap, _∙_}
+use mathlib.Core.Path.{_≡_, sym, ap, _∙_}
 use mathlib.Core.List.{List, [], _∷_}
-use Prim.Native.Nat.{ℕ, zero, suc, _+_, _-_, _*_, _≤_, _<_}
+use Prim.Native.Nat.{ℕ, zero, suc, _+_, _-_, _*_, _≤_}
 use native.Mathlib.Omega.{arith}
 use lib.ListN.{length, take, drop}
 use Rattle.laws.specs.Order.{Said, granted, next}
@@ -17,7 +17,7 @@ use Rattle.rules.specs.Rules.{empty}
 use Rattle.rules.specs.Edits.{addSays, added}
 use Rattle.rules.specs.Load.{Sub, sub}
 use Rattle.rules.specs.Afresh.{Afresh}
-use Rattle.rules.specs.History.{Edit, answer, edited, number, effect, adds as addition}
+use Rattle.rules.specs.History.{answer, edited, number, effect, adds as addition}
 use Rattle.rules.proofs.Form.{plain-laws}
 use Rattle.history.proofs.Run.{afresh-answers, afresh-edited}
 use Rattle.history.proofs.Afresh.{afresh-valid, empty-afresh}

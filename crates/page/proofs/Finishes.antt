@@ -1,6 +1,6 @@
 -- What is printed of a report, by its answer and the words that it left. Assumes nothing.
 use mathlib.Core.Path.{_≡_, refl, sym, ap, _∙_}
-use mathlib.Core.List.{List, _++_}
+use mathlib.Core.List.{List}
 use Prim.Native.Nat.{ℕ, _+_, _*_, _≤_}
 use native.Mathlib.Omega.{arith}
 use lib.ListN.{length, take, drop, replicate, length-replicate}
@@ -15,7 +15,6 @@ use Rattle.report.specs.Answers.{answerOf, verdictOf, summaryIn}
 use Rattle.report.specs.Promise.{writesHits}
 use Rattle.report.specs.declared.Summary.{Summary}
 use Rattle.report.specs.declared.Answer.{Answer}
-use Rattle.report.specs.declared.Verdict.{Verdict}
 use Rattle.report.specs.declared.Verdict.the-variants.{Granted, Refused, RefusedAt}
 use Rattle.report.proofs.Spans.{length-pairs}
 use Rattle.report.proofs.Given.{given, count-given}

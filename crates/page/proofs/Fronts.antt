@@ -1,7 +1,7 @@
 -- The first three lines of an input, and what the whole then says. Assumes nothing.
 use mathlib.Core.Path.{_≡_, refl, sym, ap, _∙_}
 use mathlib.Core.List.{List}
-use Prim.Native.Nat.{ℕ, _+_, _-_}
+use Prim.Native.Nat.{ℕ, _-_}
 use lib.ListN.{take, drop}
 use Rattle.laws.specs.Order.{Said, granted, refused, next}
 use Rattle.lines.specs.Lines.{pieces}
@@ -12,7 +12,7 @@ use Rattle.lines.proofs.LineByLine.{one-took, one-bad}
 use Rattle.lines.proofs.Headers.{header-stands, header-none}
 use Rattle.rules.specs.Rules.{empty}
 use Rattle.page.specs.Input.{clockOf, adds, reportShows, linesSay, inputSays, Shown}
-use Rattle.page.specs.Steps.{frontSays, FrontOf}
+use Rattle.page.specs.Steps.{FrontOf}
 use Rattle.page.specs.declared.Front.the-variants.{Three, Malformed}
 
 -- what is asked after each line

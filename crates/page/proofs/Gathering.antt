@@ -1,14 +1,14 @@
 -- The loop that gathers the words of the `sub=` lines: what is gathered is added first, and then what is left has its say. Assumes nothing.
 use mathlib.Core.Path.{_≡_, refl, sym, ap, _∙_}
-use mathlib.Core.Bool.{Bool, true, false}
+use mathlib.Core.Bool.{true, false}
 use mathlib.Core.List.{List, [], _∷_, _++_, append-assoc}
 use Prim.Native.Nat.{ℕ, zero, suc, _+_, _*_, _≤_, _<_}
 use native.Mathlib.Omega.{arith}
 use lib.ListN.{length, take, drop, set, length-append, length-set}
 use lib.Seq.{length-take-le, take-at}
-use Rattle.laws.specs.Order.{Said, granted, refused, refusedAt, next, choose}
+use Rattle.laws.specs.Order.{Said, granted, refused, refusedAt, next}
 use Rattle.laws.specs.Space.{pasted}
-use Rattle.laws.proofs.Next.{next-next, next-granted, next-by}
+use Rattle.laws.proofs.Next.{next-next, next-by}
 use Rattle.laws.proofs.Pasted.{pasted-one, pasted-two, pasted-length}
 use Rattle.lines.specs.Lines.{pieces}
 use Rattle.lines.specs.Forms.{subLine}

@@ -1,18 +1,18 @@
 -- Two inputs that agree on one client's subscriptions print that client the same page. Assumes nothing.
 use mathlib.Core.Path.{_≡_, refl, sym, ap, _∙_}
-use mathlib.Core.Bool.{Bool, true, false}
+use mathlib.Core.Bool.{Bool}
 use mathlib.Core.List.{List, [], _∷_, _++_, map}
 use Prim.Native.Nat.{ℕ}
 use Rattle.laws.specs.Order.{Said, granted, refused, refusedAt, next, choose}
 use Rattle.laws.proofs.Next.{next-next}
-use Rattle.lines.specs.Lines.{pieces, isLine}
+use Rattle.lines.specs.Lines.{isLine}
 use Rattle.lines.specs.Forms.{nowLine, clientLine, headerLine, subLine}
 use Rattle.lines.specs.LineByLine.{oneLine, eachLine, eachDone}
 use Rattle.lines.proofs.LineByLine.{each-lines}
 use Rattle.rules.specs.Form.{plain}
 use Rattle.rules.specs.Rules.{empty}
 use Rattle.rules.specs.Edits.{addSays, added}
-use Rattle.rules.specs.Load.{Sub, sub, items, addAll, loadSays}
+use Rattle.rules.specs.Load.{Sub, items, addAll, loadSays}
 use Rattle.rules.specs.Afresh.{Afresh}
 use Rattle.history.proofs.Proved.{plain-book-and-history}
 use Rattle.report.specs.Hits.{isOf}

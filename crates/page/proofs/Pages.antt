@@ -1,9 +1,9 @@
 -- The page of an input, by its first three lines, its book and its report. Assumes nothing.
-use mathlib.Core.Path.{_≡_, refl, sym, ap, _∙_}
+use mathlib.Core.Path.{_≡_, sym, ap, _∙_}
 use mathlib.Core.List.{List}
 use Prim.Native.Nat.{ℕ, _+_, _-_}
 use lib.ListN.{take, drop}
-use Rattle.laws.specs.Order.{Said, granted, refused, next}
+use Rattle.laws.specs.Order.{Said, next}
 use Rattle.lines.specs.Lines.{pieces}
 use Rattle.lines.specs.Forms.{subLine}
 use Rattle.lines.specs.LineByLine.{eachLine}
@@ -11,7 +11,6 @@ use Rattle.printing.specs.Page.{refusedText}
 use Rattle.printing.specs.Promise.{PrintPromise}
 use Rattle.printing.specs.declared.Printed.{Printed}
 use Rattle.printing.proofs.Writing.{print-as}
-use Rattle.clock.specs.declared.Clock.{Clock}
 use Rattle.rules.specs.Rules.{empty}
 use Rattle.book.specs.declared.Edited.{Edited}
 use Rattle.book.specs.declared.Edited.the-variants.{Done, Refused}

@@ -1,12 +1,12 @@
 -- A named size holds the page of any input, so whoever lends it never meets 13. Assumes nothing.
-use mathlib.Core.Path.{_≡_, refl, sym, ap, _∙_}
+use mathlib.Core.Path.{_≡_, refl, ap, _∙_}
 use mathlib.Core.Bool.{Bool, true, false, not}
 use mathlib.Core.List.{List, [], _∷_}
-use Prim.Native.Nat.{ℕ, _*_, _/_, _≤_}
+use Prim.Native.Nat.{ℕ, _*_, _≤_}
 use native.Mathlib.Omega.{arith}
 use lib.Dec.{eqb, ltb}
 use lib.ListN.{length}
-use Rattle.laws.specs.Order.{Said, granted, refused, refusedAt, next, choose, isRefusal}
+use Rattle.laws.specs.Order.{Said, granted, refused, refusedAt, next, choose}
 use Rattle.laws.specs.Space.{pasted}
 use Rattle.codec.specs.Codec.{Out, got, no}
 use Rattle.header.specs.Header.{Alert, Front, header}
@@ -21,13 +21,12 @@ use Rattle.place.specs.FirstWord.{badPlace}
 use Rattle.rules.specs.Form.{plain, badClient, badWish}
 use Rattle.rules.specs.Rules.{empty, recs, good}
 use Rattle.rules.specs.Edits.{addSays, stands, full}
-use Rattle.rules.specs.Load.{Sub}
 use Rattle.rules.specs.Afresh.{subs}
 use Rattle.report.specs.Hits.{hitsOf, pairs}
 use Rattle.report.specs.Report.{Full, summaryOf, alertSays, listSays, reportSays}
 use Rattle.report.specs.declared.Summary.{Summary}
 use Rattle.report.proofs.Spans.{length-pairs}
-use Rattle.report.proofs.Given.{Given, given}
+use Rattle.report.proofs.Given.{given}
 use Rattle.lines.specs.Lines.{pieces, Form, isLine}
 use Rattle.lines.specs.Forms.{nowLine, clientLine, headerLine, subLine}
 use Rattle.lines.specs.LineByLine.{oneLine, eachLine}

@@ -3,7 +3,6 @@ use Prim.Native.Nat.{ℕ}
 use mathlib.Core.List.{List}
 use Rattle.laws.specs.Order.{Said, granted, refused, refusedAt}
 use Rattle.report.specs.Hits.{pairs}
-use Rattle.report.specs.Report.{Full}
 use Rattle.printing.specs.Page.{pageText, refusedText}
 use Rattle.page.specs.Input.{Shown, inputSays}
 

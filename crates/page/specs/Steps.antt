@@ -1,8 +1,8 @@
 -- Steps of the code.
 use Prim.Native.Nat.{ℕ, _+_, _-_, _*_, _≤_, _<_}
 use mathlib.Core.Path.{_≡_}
-use mathlib.Core.Bool.{Bool, true, false}
-use mathlib.Core.List.{List, []}
+use mathlib.Core.Bool.{Bool}
+use mathlib.Core.List.{List}
 use lib.ListN.{length, take, drop}
 use Rattle.laws.specs.Order.{Said, granted, refused, next, choose}
 use Rattle.lines.specs.Lines.{pieces}

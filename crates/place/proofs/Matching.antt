@@ -1,13 +1,12 @@
 -- Matching as the paper says it, in both directions; the law that books and reports use; the paper's cases. Assumes nothing.
 use Prim.Native.Nat.{ℕ}
-use mathlib.Core.Path.{_≡_, refl, sym, _∙_}
+use mathlib.Core.Path.{_≡_, refl}
 use mathlib.Core.Logic.{_⊎_, inl, inr}
 use mathlib.Core.Bool.{Bool, true, false, _&&_, _||_}
 use mathlib.Core.List.{List, [], _∷_}
 use borrow.Author.Tests.{eqb-true, eq-eqb}
 use lib.Dec.{eqb}
-use Rattle.laws.specs.Lists.{some}
-use Rattle.laws.proofs.Tests.{and-l, and-r, and-i, impossible}
+use Rattle.laws.proofs.Tests.{and-l, and-r, and-i}
 use Rattle.place.specs.Place.{part, state, county, meet, matches, matchesSome}
 
 -- equal, or either is 0

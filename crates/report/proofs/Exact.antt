@@ -1,13 +1,12 @@
 -- A report over the book of some subscriptions lists exactly that client's that match, each once, in place order. Assumes nothing.
-use mathlib.Core.Path.{_≡_, refl, sym, ap, _∙_}
-use mathlib.Core.Bool.{Bool, true, false, not}
+use mathlib.Core.Path.{_≡_, refl, ap, _∙_}
+use mathlib.Core.Bool.{Bool, true, false}
 use mathlib.Core.List.{List, [], _∷_}
 use Prim.Native.Nat.{ℕ, _+_, _*_, _≤_}
 use native.Mathlib.Omega.{arith}
 use borrow.Author.Tests.{le-ltb}
-use lib.Dec.{ltb, eqb}
 use lib.ListN.{length}
-use Rattle.laws.specs.Order.{Said, granted, next, choose}
+use Rattle.laws.specs.Order.{Said, granted, choose}
 use Rattle.laws.specs.Lists.{tally, one, keep}
 use Rattle.laws.specs.Space.{leaves}
 use Rattle.laws.proofs.Tests.{and-l, no-both}

@@ -7,7 +7,7 @@ use native.Mathlib.Omega.{arith}
 use borrow.Author.Tests.{ltb-false}
 use lib.Dec.{ltb}
 use lib.ListN.{length}
-use Rattle.laws.specs.Order.{Said, granted, refused, next, choose}
+use Rattle.laws.specs.Order.{Said, granted, refused, choose}
 use Rattle.laws.proofs.Next.{next-first}
 use Rattle.header.specs.Header.{Alert}
 use Rattle.header.specs.Reading.{readSays}

@@ -1,14 +1,13 @@
 -- What is kept of some subscriptions: each as often as it stands, and one client's in place order. Assumes nothing.
 use mathlib.Core.Path.{_≡_, refl, sym, ap, _∙_}
-use mathlib.Core.Bool.{Bool, true, false, _&&_, and-true, and-false}
+use mathlib.Core.Bool.{Bool, true, false, _&&_}
 use mathlib.Core.List.{List, [], _∷_}
-use Prim.Native.Nat.{ℕ, _+_, _*_, _≤_, _<_}
+use Prim.Native.Nat.{ℕ, _+_, _*_, _≤_}
 use native.Mathlib.Omega.{arith}
 use borrow.Author.Tests.{eqb-true}
-use lib.Dec.{eqb}
 use Rattle.laws.specs.Order.{choose}
 use Rattle.laws.specs.Lists.{every, tally, one, keep}
-use Rattle.laws.proofs.Tests.{and-l, and-r, and-i, no-both}
+use Rattle.laws.proofs.Tests.{and-l, and-r, and-i}
 use Rattle.laws.proofs.Counting.{tally-keep}
 use Rattle.place.specs.FirstWord.{firstWord}
 use Rattle.place.proofs.Words.{word-low}

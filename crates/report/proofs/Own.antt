@@ -6,7 +6,6 @@ use Prim.Native.Nat.{ℕ}
 use lib.Dec.{ltb}
 use lib.ListN.{length}
 use Rattle.laws.specs.Order.{Said, granted, refused, refusedAt, inOrder, next}
-use Rattle.laws.specs.Lists.{keep}
 use Rattle.laws.specs.Space.{leaves}
 use Rattle.header.specs.Header.{Alert}
 use Rattle.header.specs.Reading.{readSays}
@@ -15,7 +14,7 @@ use Rattle.clock.specs.declared.Clock.{Clock}
 use Rattle.rules.specs.Form.{plain}
 use Rattle.rules.specs.Edits.{who}
 use Rattle.rules.specs.Load.{Sub}
-use Rattle.rules.specs.Afresh.{subs, times, Afresh}
+use Rattle.rules.specs.Afresh.{subs, Afresh}
 use Rattle.rules.specs.History.{Edit, standing, bookAfter}
 use Rattle.rules.proofs.Form.{plain-laws}
 use Rattle.history.specs.Members.{isIn}

@@ -8,8 +8,6 @@ use native.Mathlib.Nat.{eq-or-lt-of-le, le-refl, zero-add}
 use native.Mathlib.Numerals.{add-one}
 use native.Mathlib.Omega.{arith}
 use lib.ListN.{length, length-append, length-map}
-use lib.Dec.{ltb}
-use borrow.Author.Tests.{lt-ltb, le-ltb}
 use Rattle.laws.specs.Order.{choose}
 use Rattle.laws.specs.Lists.{table, tally, one, keep}
 use Rattle.laws.specs.Space.{pasted}

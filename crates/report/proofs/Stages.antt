@@ -1,7 +1,7 @@
 -- The stages of a report over plain values: what each refusal and each going on says of the whole. Assumes nothing.
 use mathlib.Core.Path.{_≡_, refl, sym, ap, _∙_}
 use mathlib.Core.Bool.{Bool, true, false, not}
-use mathlib.Core.List.{List, [], _∷_, _++_}
+use mathlib.Core.List.{List, [], _∷_}
 use Prim.Native.Nat.{ℕ, _+_, _*_, _-_, _≤_}
 use native.Mathlib.Omega.{arith}
 use lib.Dec.{ltb}
@@ -9,10 +9,10 @@ use lib.ListN.{length, take, replicate, length-append, length-replicate}
 use lib.Seq.{take-append-le}
 use Rattle.laws.specs.Order.{Said, granted, refused, refusedAt, _when_, inOrder, next, choose}
 use Rattle.laws.specs.Lists.{keep}
-use Rattle.laws.specs.Space.{pasted, leaves}
+use Rattle.laws.specs.Space.{leaves}
 use Rattle.header.specs.Header.{Alert}
 use Rattle.header.specs.Reading.{readSays}
-use Rattle.header.specs.Answers.{alertIn, fieldsOf, fieldsFor, counted, said as readSaid, verdictSays}
+use Rattle.header.specs.Answers.{alertIn, fieldsOf, fieldsFor, verdictSays}
 use Rattle.header.specs.Promise.{ReadPromise}
 use Rattle.header.specs.declared.Fields.{Fields}
 use Rattle.header.specs.declared.Answer.{Answer as Read}
@@ -21,8 +21,7 @@ use Rattle.header.specs.declared.Verdict.the-variants.{Granted as Reads, Refuse
 use Rattle.event.specs.Events.{isListed}
 use Rattle.event.specs.Class.{classOf}
 use Rattle.clock.specs.Clock.{hasDay, isClock}
-use Rattle.header.specs.Header.{isIssue, isDuration}
-use Rattle.clock.specs.Lifetime.{yearOf, timesOf}
+use Rattle.clock.specs.Lifetime.{yearOf}
 use Rattle.clock.specs.Answers.{timesSays}
 use Rattle.clock.specs.declared.Clock.{Clock}
 use Rattle.clock.specs.declared.Times.{Times}
@@ -31,12 +30,11 @@ use Rattle.rules.specs.Form.{plain, badClient}
 use Rattle.rules.specs.Rules.{good}
 use Rattle.rules.specs.Load.{Sub}
 use Rattle.rules.specs.Afresh.{subs}
-use Rattle.report.specs.Hits.{isHit, hitsOf, pairs}
+use Rattle.report.specs.Hits.{isHit, hitsOf}
 use Rattle.report.specs.Report.{Full, summaryOf, alertSays, listSays, reportSays}
 use Rattle.report.specs.Answers.{answerOf}
 use Rattle.report.specs.Promise.{writesHits, ReportPromise}
 use Rattle.report.specs.Steps.{ListsHits, timedSays, TimedReport, Readable, AlertReport}
-use Rattle.report.specs.declared.Summary.{Summary}
 use Rattle.report.specs.declared.Answer.{Answer}
 use Rattle.report.specs.declared.Listed.{Listed}
 use Rattle.report.specs.declared.Listed.the-variants.{All, Short}

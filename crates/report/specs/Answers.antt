@@ -1,5 +1,4 @@
 -- The answer of a report, in the paper's numbers and values; a refusal gives zeros beside its number.
-use Prim.Native.Nat.{ℕ}
 use mathlib.Core.Bool.{false}
 use lib.ListN.{replicate}
 use Rattle.laws.specs.Order.{Said, granted, refused, refusedAt}

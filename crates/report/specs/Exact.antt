@@ -1,5 +1,5 @@
 -- Demand 3: a client's report lists exactly that client's matching subscriptions, each once, in place order.
-use Prim.Native.Nat.{ℕ, _*_, _<_}
+use Prim.Native.Nat.{ℕ, _<_}
 use mathlib.Core.Bool.{Bool}
 use mathlib.Core.List.{List, [], _∷_}
 use mathlib.Core.Path.{_≡_}

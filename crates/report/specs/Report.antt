@@ -1,6 +1,6 @@
 -- Paper 01, "Numbers and what they leave": the report, 16, 17, the header's, 15, 14, 13.
 use Prim.Native.Nat.{ℕ, _*_}
-use mathlib.Core.Bool.{Bool, not}
+use mathlib.Core.Bool.{not}
 use mathlib.Core.List.{List, [], _∷_, _++_}
 use lib.ListN.{length}
 use lib.Dec.{ltb}
@@ -17,7 +17,7 @@ use Rattle.rules.specs.Edits.{sound, who}
 use Rattle.rules.specs.Load.{Sub}
 use Rattle.rules.specs.Afresh.{subs}
 use Rattle.report.specs.declared.Summary.{Summary}
-use Rattle.report.specs.Hits.{hitsOf, pairs}
+use Rattle.report.specs.Hits.{hitsOf}
 
 -- what a granted report says of an alert with these hits: date and time of issue and of the end, and the state; event, whether
 -- listed, class; number of hits

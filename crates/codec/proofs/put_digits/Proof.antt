@@ -1,5 +1,5 @@
 -- `codec::put_digits` meets its contract: what is left to write, pasted at its index, gives the whole. Assumes nothing.
-use Prim.Native.Nat.{ℕ, _+_, _-_}
+use Prim.Native.Nat.{ℕ, _+_}
 use mathlib.Core.Path.{refl, sym, ap}
 use native.Mathlib.Omega.{arith}
 use Rattle.laws.proofs.Decimal.{Digits, digit-turn, digits-done, length-dig}

@@ -1,5 +1,4 @@
 -- `header::put_marked` meets its contract. Assumes nothing.
-use Prim.Native.Nat.{_-_}
 use native.Mathlib.Omega.{arith}
 use Rattle.codec.proofs.Puts.{put-fits, puts-more}
 use borrow.Author.Needs.{needs}

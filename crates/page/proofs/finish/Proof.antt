@@ -1,5 +1,5 @@
 -- `page::finish` meets its contract. Assumes nothing.
-use mathlib.Core.Path.{_≡_, sym, ap, _∙_}
+use mathlib.Core.Path.{sym, _∙_}
 use native.Mathlib.Omega.{arith}
 use Rattle.printing.proofs.Writing.{print-as}
 use Rattle.page.proofs.Finishes.{answer-verdict, answer-summary, shows-refused, shows-refused-at, shows-granted}

@@ -1,7 +1,7 @@
 -- `page::page` meets its contract. Assumes nothing.
-use mathlib.Core.Path.{_≡_, refl, sym, ap, subst, _∙_}
+use mathlib.Core.Path.{refl, ap, subst, _∙_}
 use native.Mathlib.Omega.{arith}
-use Rattle.page.specs.Steps.{FrontOf, frontIn, refusalOf}
+use Rattle.page.specs.Steps.{frontIn, refusalOf}
 use Rattle.page.proofs.Pages.{no-front, no-book, with-book}
 use borrow.Author.Needs.{needs}
 use Rattle.page.proofs.page.Statement.{statement}

@@ -1,5 +1,5 @@
 -- `report::alert_report` meets its contract. Assumes nothing.
-use mathlib.Core.Path.{_≡_, sym, ap, _∙_}
+use mathlib.Core.Path.{sym, ap, _∙_}
 use Rattle.header.specs.Answers.{alertIn}
 use Rattle.clock.specs.Answers.{saidTimed}
 use Rattle.rules.specs.Form.{plain}

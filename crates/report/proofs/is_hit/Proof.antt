@@ -1,16 +1,14 @@
 -- `report::is_hit` meets its contract. Assumes nothing.
 use Prim.Native.Nat.{ℕ}
 use mathlib.Core.Path.{_≡_, sym, ap, _∙_}
-use mathlib.Core.Bool.{Bool, true, false, and-false, and-true}
+use mathlib.Core.Bool.{true, false, and-false, and-true}
 use mathlib.Core.List.{List}
 use borrow.Author.Needs.{needs}
 use borrow.Author.Tests.{eq-eqb, ne-eqb, not-true, not-false}
-use lib.Dec.{eqb}
 use Rattle.place.specs.Place.{matchesSome}
 use Rattle.place.specs.FirstWord.{placeOf}
 use Rattle.rules.specs.Form.{plain}
 use Rattle.rules.specs.Rules.{Rec, recAt}
-use Rattle.rules.specs.Afresh.{subOf}
 use Rattle.report.specs.Hits.{hasClass, matching, isHit}
 use Rattle.report.specs.Steps.{hitRec}
 use Rattle.report.proofs.is_hit.Statement.{statement}

@@ -2,7 +2,6 @@
 use mathlib.Core.Path.{ap}
 use Rattle.report.specs.Answers.{answerOf}
 use Rattle.report.specs.declared.Summary.{Summary}
-use Rattle.report.specs.declared.Answer.{Answer}
 use Rattle.report.specs.declared.Verdict.the-variants.{RefusedAt}
 use borrow.Author.Needs.{needs}
 use Rattle.report.proofs.refused_at.Statement.{statement}

@@ -1,6 +1,5 @@
 -- `report::report` meets its contract. Assumes nothing.
-use mathlib.Core.Path.{_≡_, sym, ap, _∙_}
-use mathlib.Core.Bool.{true, false}
+use mathlib.Core.Path.{sym, ap, _∙_}
 use borrow.Author.Tests.{not-true, not-false}
 use Rattle.header.specs.Answers.{alertIn}
 use Rattle.report.specs.Steps.{readRefusal}

@@ -3,7 +3,7 @@ use Prim.Native.Nat.{ℕ}
 use mathlib.Core.Path.{_≡_, sym, ap, _∙_, subst}
 use mathlib.Core.List.{List}
 use native.Mathlib.Omega.{arith}
-use lib.ListN.{length, take, length-take}
+use lib.ListN.{take, length-take}
 use Rattle.laws.specs.Lists.{keep}
 use Rattle.header.specs.Answers.{alertIn}
 use Rattle.event.specs.declared.Kind.{Kind}
@@ -12,8 +12,6 @@ use Rattle.rules.specs.Load.{Sub}
 use Rattle.rules.specs.Afresh.{subs}
 use Rattle.report.specs.Hits.{isHit, hitsOf}
 use Rattle.report.specs.Steps.{ListsHits, kindOf}
-use Rattle.report.specs.declared.Summary.{Summary}
-use Rattle.report.specs.declared.Answer.{Answer}
 use Rattle.report.specs.declared.Verdict.the-variants.{Granted}
 use Rattle.report.specs.declared.Listed.{Listed}
 use Rattle.report.proofs.Stages.{hits-are, short, listed}
