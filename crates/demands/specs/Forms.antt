@@ -1,0 +1,26 @@
+-- The three forms of statement that demand 1 makes of every call.
+use mathlib.Core.Path.{_≡_}
+use mathlib.Core.Logic.{_⊎_}
+use mathlib.Core.Bool.{true}
+use mathlib.Core.List.{List}
+use Prim.Native.Nat.{ℕ}
+use Rattle.laws.specs.Order.{Said, Row, First, Quiet, isRefusal}
+
+-- any two answers that meet a promise are equal
+abbrev pub LeavesNoChoice : {A : Type 0} → (A → Type 0) → Type 0
+LeavesNoChoice {A} Promise = (r q : A) → Promise r → Promise q → r ≡ q
+
+-- the same where space is lent: the two final contents are equal too
+abbrev pub LeavesNoChoiceOf : {A : Type 0} → (A → List ℕ → Type 0) → Type 0
+LeavesNoChoiceOf {A} Promise = (r q : A) (left rest : List ℕ) → Promise r left → Promise q rest → (r ≡ q) × (left ≡ rest)
+
+-- where an answer that meets a promise says a refusal, the lent space holds what it held
+abbrev pub RefusalWritesNothing : {A B : Type 0} → (A → Said B) → List ℕ → (A → List ℕ → Type 0) → Type 0
+RefusalWritesNothing {A} said lent Promise = (r : A) (left : List ℕ) → Promise r left → isRefusal (said r) ≡ true → left ≡ lent
+
+-- what is said goes by rows tried from the top: it is said by the first that holds, or none holds and the last word is said; and
+-- what the first that holds says is said
+pub record GoesBy {A : Type 0} (rows : List (Row A)) (last said : A) : Type 0 where
+  pub one-of : First said rows ⊎ (Quiet rows × (said ≡ last))
+  pub first : (x : A) → First x rows → said ≡ x
+  pub none : Quiet rows → said ≡ last

@@ -1,0 +1,9 @@
+pub mod Forms
+pub mod Texts
+pub mod Calls
+pub mod Demand1
+pub mod Demand2
+pub mod Demand3
+pub mod Both
+pub mod Impostors
+pub mod Everything

@@ -1,0 +1,1 @@
+// The demands, statement by statement, and their proofs. There is no code here.
