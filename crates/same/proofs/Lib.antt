@@ -1,0 +1,5 @@
+pub mod Packs
+pub mod Filled
+pub mod Pastes
+pub mod Reported
+pub mod NoChoice

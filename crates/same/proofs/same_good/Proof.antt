@@ -1,0 +1,22 @@
+-- `same::same_good` meets its contract. Assumes nothing.
+use mathlib.Core.Path.{_≡_, refl, sym, ap, _∙_}
+use Prim.Native.Nat.{ℕ}
+use Rattle.rules.specs.Form.{plain}
+use Rattle.rules.specs.Rules.{good}
+use Rattle.same.specs.Answer.{packed, bare}
+use Rattle.same.proofs.Packs.{sound-number, unsound-number}
+use borrow.Author.Needs.{needs}
+use Rattle.same.proofs.same_good.Statement.{statement}
+use Rattle.same.proofs.same_good.Tie as tie
+
+is-good-requires : tie.Need-is-good-requires
+is-good-requires c κs = search needs
+
+returns : tie.Need-returns
+returns c = record { says = sound-number (good plain _) (sym (c .before .is-good .ensures .says) ∙ c .if1 .taken) }
+
+returns-2 : tie.Need-returns-2
+returns-2 c = record { says = unsound-number (good plain _) (sym (c .before .is-good .ensures .says) ∙ c .if1 .left) }
+
+pub same-good-spec : {M : Type 1} → statement M
+same-good-spec = tie.close (tie.spec is-good-requires returns returns-2)

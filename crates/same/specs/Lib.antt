@@ -1,0 +1,5 @@
+pub mod Answer
+pub mod Words
+pub mod Says
+pub mod Promise
+pub mod Steps
