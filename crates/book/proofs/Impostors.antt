@@ -1,5 +1,6 @@
 -- What meets the promise of an addition neither refuses every one nor only says that it was done; nor does a removal. Assumes nothing.
 use Prim.Native.Nat.{ℕ}
+use mathlib.Core.Bool.{true}
 use mathlib.Core.List.{List, [], _∷_}
 use mathlib.Core.Path.{_≡_, refl, sym, ap, _∙_}
 use native.Mathlib.Omega.{arith}
@@ -9,17 +10,19 @@ use Rattle.laws.specs.Space.{leaves}
 use Rattle.laws.specs.Lists.{keep}
 use Rattle.place.specs.FirstWord.{firstWord, badPlace}
 use Rattle.rules.specs.Form.{plain, badClient, badWish}
-use Rattle.rules.specs.Rules.{Rec, recs, empty, layout}
+use Rattle.rules.specs.Rules.{Rec, recs, good, empty, layout}
 use Rattle.rules.specs.Edits.{recOf, stands, addSays, insert, added, removeSays, without, removed}
 use Rattle.rules.proofs.Form.{plain-laws}
 use Rattle.rules.proofs.Sound.{insert-nil}
-use Rattle.rules.proofs.Whole.{recs-layout, empty-layout}
+use Rattle.rules.proofs.Whole.{recs-layout, layout-good, empty-layout}
 use Rattle.rules.proofs.Edited.{AddOpen, add-granted, length-insert, recs-added, added-good, room-left, RemoveOpen, remove-granted}
 use Rattle.book.specs.declared.Edited.{Edited}
 use Rattle.book.specs.declared.Edited.the-variants.{Done}
 use Rattle.book.specs.Promise.{AddPromise, RemovePromise}
-use Rattle.book.proofs.Loads.{empty-good}
 use Rattle.book.proofs.NoChoice.{said-one}
+
+empty-good : good plain empty ≡ true
+empty-good = sym (ap (good plain) empty-layout) ∙ layout-good plain [] tt (omega arith)
 
 none-stand : recs empty ≡ []
 none-stand = sym (ap recs empty-layout) ∙ recs-layout plain [] tt (omega arith)

@@ -1,11 +1,7 @@
-pub mod Second
-pub mod Told
-pub mod Rises
-pub mod Zeros
 pub mod Search
 pub mod Standing
 pub mod Adds
 pub mod Removes
-pub mod Loads
+pub mod Runs
 pub mod NoChoice
 pub mod Impostors

@@ -1,3 +1,4 @@
 pub mod Answer
+pub mod Run
 pub mod Promise
 pub mod Steps

@@ -1,5 +1,7 @@
 // A run of edits on one book. After each: its number, 0 where it was done, whether the book is good, and the sum of all its words.
+ghost use mathlib.Core.Path.{_≡_};
 ghost use Prim.Native.Nat.{_<_, _≤_};
+ghost use lib.ListN.{length};
 use book::Edited;
 use libc::STDOUT_FILENO;
 
@@ -149,7 +151,7 @@ fn load_items(book: &mut [u32], from: usize, to: usize) -> u32 {
     if to < from {
         return 0;
     }
-    number_of(book::load(book, &items[from..to]))
+    number_of(loads::load(book, &items[from..to]))
 }
 
 // Row i of the table.
@@ -189,7 +191,7 @@ fn print_then(n: u32, mark: &[u8]) {
 
 // Prints what is to be seen of a book.
 fn print_book(book: &[u32]) {
-    if book::is_good(book) {
+    if good::is_good(book) {
         io::write_all(STDOUT_FILENO, b", good, sum ");
     } else {
         io::write_all(STDOUT_FILENO, b", bad, sum ");
@@ -253,6 +255,36 @@ fn empty(book: &mut [u32]) -> u32 {
     count
 }
 
+// Lists the same 4,096 as items, in an order far from their own.
+fn list_all(items: &mut [u32])
+    requires { ⌜ length (now items) ≡ 12288 ⌝ }
+{
+    let mut i: u32 = 0;
+    while i < 4096 {
+        let k = i * 2731 % 4096;
+        let at = 3 * i as usize;
+        items[at] = place_by(k);
+        items[at + 1] = 1 + k % 9999;
+        items[at + 2] = 1 + k % 63;
+        i += 1;
+    }
+}
+
+// Loads all 4,096 at once, the last one with this wish.
+fn load_all(book: &mut [u32], wish: u32) -> u32 {
+    let mut items = [0u32; 12288];
+    list_all(&mut items);
+    items[12287] = wish;
+    number_of(loads::load(book, &items))
+}
+
+// Does and prints such a load.
+fn print_load(book: &mut [u32], wish: u32) {
+    io::write_all(STDOUT_FILENO, b"loaded ");
+    print_then(load_all(book, wish), b"");
+    print_book(book);
+}
+
 fn main() {
     let mut book = [0u32; 8293];
     run(&mut book, 0, 51);
@@ -263,4 +295,6 @@ fn main() {
     io::write_all(STDOUT_FILENO, b"emptied ");
     print_then(empty(&mut book), b"");
     print_book(&book);
+    print_load(&mut book, 64);
+    print_load(&mut book, 43);
 }

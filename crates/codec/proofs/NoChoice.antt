@@ -17,7 +17,7 @@ same-no-choice p q = p .says ∙ sym (q .says)
 pub digits-at-no-choice : {t : List ℕ} {at width : ℕ} {r r′ : Number} → DigitsAtPromise t at width r → DigitsAtPromise t at width r′ → r ≡ r′
 digits-at-no-choice p q = p .says ∙ sym (q .says)
 
--- of put_byte, put_bytes and put_digits
+-- of put_byte, put_bytes, put_count and put_digits
 pub put-no-choice : {d s : List ℕ} {at : ℕ} {d1 d2 : List ℕ} {r1 r2 : ℕ} → PutPromise d at s d1 r1 → PutPromise d at s d2 r2 → (r1 ≡ r2) × (d1 ≡ d2)
 put-no-choice p q = (p .next ∙ sym (q .next), p .space ∙ sym (q .space))
 

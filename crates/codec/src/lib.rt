@@ -98,8 +98,8 @@ pub fn put_bytes(out: &mut [u8], at: usize, src: &[u8]) -> usize
     at + k
 }
 
-// The last width digits of n at index at, from the right; else as put_byte.
-pub fn put_digits(out: &mut [u8], at: usize, n: u32, width: usize) -> usize
+// The last width digits of a count at index at, from the right; else as put_byte.
+pub fn put_count(out: &mut [u8], at: usize, n: usize, width: usize) -> usize
     ensures { λ r. ⌜ PutPromise (now (out .entry)) at (dig width n) (now (out .exit)) r ⌝ }
 {
     if out.len() < at {
@@ -116,4 +116,11 @@ pub fn put_digits(out: &mut [u8], at: usize, n: u32, width: usize) -> usize
         v = v / 10;
     }
     at + width
+}
+
+// The last width digits of n, which is such a number as digits_at gives.
+pub fn put_digits(out: &mut [u8], at: usize, n: u32, width: usize) -> usize
+    ensures { λ r. ⌜ PutPromise (now (out .entry)) at (dig width n) (now (out .exit)) r ⌝ }
+{
+    put_count(out, at, n as usize, width)
 }

@@ -2,7 +2,7 @@
 use mathlib.Core.Path.{_≡_, refl, sym, ap, _∙_}
 use mathlib.Core.Bool.{Bool, true, false, _&&_, not}
 use mathlib.Core.List.{List, [], _∷_}
-use Prim.Native.Nat.{ℕ}
+use Prim.Native.Nat.{ℕ, _*_}
 use lib.ListN.{length}
 use lib.Dec.{eqb, ltb}
 use Rattle.laws.specs.Order.{Said, granted, refused, refusedAt, _when_, isRefusal}
@@ -14,15 +14,28 @@ use Rattle.burst.proofs.NoChoice.{leading-no-choice, strip-no-choice, vote-no-c
 use Rattle.header.specs.Header.{Alert, isOrigin, isEvent, isIssue, isSender, isDuration, issue, front, header, textOf}
 use Rattle.header.specs.Writing.{writeSays}
 use Rattle.header.proofs.Allowed.{issue-ok}
-use Rattle.header.proofs.NoChoice.{read-no-choice, write-no-choice, is-issue-no-choice, is-duration-no-choice, read-refusal-writes-nothing, write-refusal-writes-nothing}
+use Rattle.header.proofs.NoChoice.{read-no-choice, write-no-choice, is-issue-no-choice, is-duration-no-choice, is-origin-no-choice, is-event-no-choice, is-sender-no-choice, is-written-no-choice, read-refusal-writes-nothing, write-refusal-writes-nothing}
+use Rattle.fields.proofs.NoChoice.{stands-no-choice, place-at-no-choice, minutes-at-no-choice, issue-at-no-choice}
 use Rattle.header.proofs.Stopping.{read-stops, stops-read, table-stops, stops-table}
 use Rattle.event.proofs.NoChoice.{is-listed-no-choice, class-of-no-choice, kind-of-no-choice}
-use Rattle.place.proofs.NoChoice.{matches-no-choice, matches-some-no-choice, first-word-no-choice, place-of-no-choice, bad-place-no-choice}
+use Rattle.place.proofs.NoChoice.{matches-no-choice, matches-some-no-choice, first-word-no-choice, place-of-no-choice, bad-place-no-choice, pack-no-choice, pack-places-no-choice, packed-match-some-no-choice}
+use Rattle.clock.specs.Clock.{hasDay, isClock}
+use Rattle.clock.specs.Lifetime.{yearOf, lifetimeOf, timesOf}
 use Rattle.clock.specs.Answers.{clockSays, dateSays, asked, lifetimeSays, timesSays}
 use Rattle.clock.proofs.NoChoice.{check-no-choice, date-of-no-choice, lifetime-no-choice, times-of-no-choice}
-use Rattle.rules.specs.Edits.{addSays, removeSays}
-use Rattle.rules.specs.Load.{loadSays}
-use Rattle.book.proofs.NoChoice.{bad-client-no-choice, bad-wish-no-choice, client-of-no-choice, wish-of-no-choice, is-good-no-choice, add-no-choice, remove-no-choice, load-no-choice, add-refusal-writes-nothing, remove-refusal-writes-nothing, load-refusal-writes-nothing}
+use Rattle.rules.specs.Edits.{addSays, added, removeSays}
+use Rattle.rules.specs.Form.{plain}
+use Rattle.rules.specs.Rules.{empty}
+use Rattle.rules.specs.Afresh.{subs}
+use Rattle.rules.specs.Load.{Sub, items, addAll, loadSays}
+use Rattle.header.specs.Reading.{readSays}
+use Rattle.report.specs.Hits.{hitsOf}
+use Rattle.records.proofs.NoChoice.{bad-client-no-choice, bad-wish-no-choice, client-of-no-choice, wish-of-no-choice, rank-of-no-choice, rank-or-none-no-choice}
+use Rattle.good.proofs.NoChoice.{is-good-no-choice}
+use Rattle.moves.proofs.NoChoice.{open-no-choice, close-no-choice}
+use Rattle.sorting.proofs.NoChoice.{sort-no-choice}
+use Rattle.book.proofs.NoChoice.{add-no-choice, remove-no-choice, add-each-no-choice, add-refusal-writes-nothing, remove-refusal-writes-nothing}
+use Rattle.loads.proofs.NoChoice.{load-no-choice, load-refusal-writes-nothing}
 use Rattle.clock.specs.declared.Clock.{Clock}
 use Rattle.report.specs.Report.{Full, alertSays, listSays, reportSays}
 use Rattle.report.specs.Answers.{verdictOf, answerOf}
@@ -30,12 +43,16 @@ use Rattle.report.specs.Promise.{ReportPromise}
 use Rattle.report.specs.declared.Answer.{Answer}
 use Rattle.report.proofs.NoChoice.{report-no-choice, report-refusal-writes-nothing}
 use Rattle.lines.proofs.NoChoice.{now-line-no-choice, client-line-no-choice, header-line-no-choice, sub-line-no-choice}
+use Rattle.page_lines.proofs.NoChoice.{size-of-no-choice, parts-no-choice}
+use Rattle.answers.proofs.NoChoice.{cap-no-choice, answer-no-choice, voted-no-choice, edited-no-choice, printed-no-choice, wrote-no-choice, yes-no-choice}
 use Rattle.printing.specs.Promise.{printSays}
 use Rattle.printing.proofs.NoChoice.{print-no-choice, print-refusal-writes-nothing}
 use Rattle.page.proofs.NoChoice.{page-no-choice, page-refusal-writes-nothing}
-use Rattle.demands.specs.Forms.{GoesBy}
-use Rattle.demands.specs.Demand1.{verdictSays, saidReport, EveryCall, EveryRefusal, EveryNumber, Demand1}
+use Rattle.demands.specs.Forms.{GoesBy, numbered}
+use Rattle.demands.specs.Demand1.{verdictSays, saidReport, EveryCall, EveryRefusal, EveryNumber, EveryNumbered, Demand1}
 use Rattle.demands.proofs.Rows.{by-rows}
+use Rattle.demands.proofs.Numbered.{numbered-rows, numbered-by, numbered-next, numbered-read}
+use Rattle.demands.proofs.Outside.{outside-call, outside-refusal, outside-number}
 
 pub every-call : EveryCall
 every-call = record {
@@ -46,6 +63,17 @@ every-call = record {
   write = λ f out r q left rest a b. write-no-choice a b;
   is-issue = λ day hour minute r q a b. is-issue-no-choice a b;
   is-duration = λ minutes r q a b. is-duration-no-choice a b;
+  is-origin = λ b r q p u. is-origin-no-choice p u;
+  is-event = λ b r q p u. is-event-no-choice p u;
+  is-sender = λ b r q p u. is-sender-no-choice p u;
+  is-written = λ hours minutes r q a b. is-written-no-choice a b;
+  start-at = λ text at r q a b. stands-no-choice a b;
+  origin-at = λ text at r q a b. stands-no-choice a b;
+  event-at = λ text at r q a b. stands-no-choice a b;
+  sender-at = λ text at r q a b. stands-no-choice a b;
+  place-at = λ text at r q a b. place-at-no-choice a b;
+  minutes-at = λ text at r q a b. minutes-at-no-choice a b;
+  issue-at = λ text at r q a b. issue-at-no-choice a b;
   is-listed = is-listed-no-choice;
   class-of = class-of-no-choice;
   kind-of = kind-of-no-choice;
@@ -54,6 +82,9 @@ every-call = record {
   first-word = first-word-no-choice;
   place-of = place-of-no-choice;
   bad-place = bad-place-no-choice;
+  pack = pack-no-choice;
+  pack-places = pack-places-no-choice;
+  packed-match-some = packed-match-some-no-choice;
   check = check-no-choice;
   date-of = date-of-no-choice;
   lifetime = lifetime-no-choice;
@@ -62,15 +93,23 @@ every-call = record {
   bad-wish = bad-wish-no-choice;
   client-of = client-of-no-choice;
   wish-of = wish-of-no-choice;
+  rank-of = rank-of-no-choice;
+  rank-or-none = rank-or-none-no-choice;
+  open-two = open-no-choice;
+  close-two = close-no-choice;
   is-good = is-good-no-choice;
   add = add-no-choice;
   remove = remove-no-choice;
+  add-each = add-each-no-choice;
+  sort = sort-no-choice;
   load = load-no-choice;
   report = report-no-choice;
   now-line = λ input at r q a b. now-line-no-choice a b;
   client-line = λ input at r q a b. client-line-no-choice a b;
   header-line = λ input at r q a b. header-line-no-choice a b;
   sub-line = λ input at r q a b. sub-line-no-choice a b;
+  size-of = λ n r q a b. size-of-no-choice a b;
+  put-parts = λ out at parts r q left rest a b. parts-no-choice a b;
   print-refusal = λ number out r q left rest a b. print-no-choice a b;
   print-page = λ client times event listed class hits out r q left rest a b. print-no-choice a b;
   page = λ input out r q left rest a b. page-no-choice a b;
@@ -80,6 +119,14 @@ every-call = record {
   put-byte = λ out at b r q left rest p u. put-no-choice p u;
   put-bytes = λ out at src r q left rest a b. put-no-choice a b;
   put-digits = λ out at n width r q left rest a b. put-no-choice a b;
+  cap = cap-no-choice;
+  answer = answer-no-choice;
+  voted = voted-no-choice;
+  edited = edited-no-choice;
+  printed = printed-no-choice;
+  wrote = wrote-no-choice;
+  yes = yes-no-choice;
+  outside = outside-call;
 }
 
 -- a report's answer says a refusal where the report does
@@ -108,6 +155,7 @@ every-refusal = record {
   page = λ input out r left p h. page-refusal-writes-nothing p h;
   put = λ out at bytes left r p h. put-writes-nothing p h .1;
   read = λ text r p h. read-refusal-writes-nothing p h;
+  outside = outside-refusal;
 }
 
 -- the writer's rows, with the test of an issue in one word
@@ -148,5 +196,43 @@ every-number = record {
   print = λ text room. by-rows _ _;
 }
 
+-- of each item of a load
+items-numbered : (w : List ℕ) (xs : List Sub) → numbered (addAll plain w xs) ≡ true
+unfolding addAll
+items-numbered w [] = refl
+items-numbered w (x ∷ xs) =
+    numbered-next (addSays plain w (x .place) (x .client) (x .wish)) (λ u. addAll plain (added plain (x .place) (x .client) (x .wish) w) xs)
+    (numbered-by (every-number .add w (x .place) (x .client) (x .wish)) refl refl) (λ u. items-numbered (added plain (x .place) (x .client) (x .wish) w) xs)
+
+pub every-numbered : EveryNumbered
+unfolding lifetimeSays timesSays
+every-numbered = record {
+  vote = λ a b c room. numbered-by (every-number .vote a b c room) refl refl;
+  read = numbered-read;
+  write = λ a room. numbered-by (every-number .write a room) refl refl;
+  check = λ at. numbered-by (every-number .check at) refl refl;
+  date-of = λ year day. numbered-by (every-number .date-of year day) refl refl;
+  lifetime = λ at day hour minute duration. numbered-next (asked at day hour minute duration) (λ u. granted (lifetimeOf at day hour minute duration))
+      (numbered-by (every-number .asked-of at day hour minute duration) refl refl) (λ u. refl);
+  times-of = λ at day hour minute duration. numbered-next (asked at day hour minute duration) (λ u. granted (timesOf at day hour minute duration))
+      (numbered-by (every-number .asked-of at day hour minute duration) refl refl) (λ u. refl);
+  add = λ book place client wish. numbered-by (every-number .add book place client wish) refl refl;
+  remove = λ book place client. numbered-by (every-number .remove book place client) refl refl;
+  load = λ book list. numbered-by (every-number .load book list) refl (items-numbered empty (items list));
+  report = λ book client text at room. numbered-by (every-number .report book client text at room) refl
+      (numbered-next (readSays text) _ (numbered-read text) (λ a. numbered-rows
+      (refused 15 when not (isClock at)
+      ∷ refused 14 when not (hasDay (yearOf at (a .day) (a .hour) (a .minute)) (a .day))
+      ∷ refused 13 when ltb room (2 * length (hitsOf client a (subs plain book)))
+      ∷ []) _ refl refl));
+  print = λ text room. numbered-by (every-number .print text room) refl refl;
+}
+
 pub demand1 : Demand1
-demand1 = record { every-call = every-call; every-refusal = every-refusal; every-number = every-number }
+demand1 = record {
+  every-call = every-call;
+  every-refusal = every-refusal;
+  every-number = every-number;
+  every-numbered = every-numbered;
+  outside-number = outside-number every-numbered;
+}

@@ -28,7 +28,7 @@ use Rattle.clock.proofs.States.{state-holds, one-state}
 use Rattle.clock.proofs.Until.{until-moment, issue-exists, until-exists, one-time}
 use Rattle.clock.proofs.Dates.{by-months}
 use Rattle.report.specs.Hits.{hasClass, matching}
-use Rattle.demands.specs.Demand2.{Allowed, placesText, ReadingAndWriting, Events, Matching, Lifetimes, Voting, Demand2}
+use Rattle.demands.specs.Demand2.{Allowed, placesText, wholeText, ReadingAndWriting, Events, Matching, Lifetimes, Voting, Demand2}
 use Rattle.demands.proofs.Rows.{by-rows}
 
 form : (a : Alert) → WellFormed a → Allowed a
@@ -60,14 +60,7 @@ same-places [] = refl
 same-places (p ∷ []) = refl
 same-places (p ∷ (q ∷ ps)) = ap (λ (t : List ℕ). dig 6 p ++ (45 ∷ t)) (same-places (q ∷ ps))
 
-written : (a : Alert) → textOf a
-    ≡ (ascii "ZCZC-"
-    ++ ((a .origin ++ ascii "-")
-    ++ ((a .event ++ ascii "-")
-    ++ (placesText (a .places)
-    ++ (((dig 2 (a .minutes / 60) ++ dig 2 (a .minutes % 60)) ++ ascii "-")
-    ++ ((dig 3 (a .day) ++ (dig 2 (a .hour) ++ dig 2 (a .minute))) ++ ascii "-"))))))
-    ++ (a .sender ++ ascii "-")
+written : (a : Alert) → textOf a ≡ wholeText a
 unfolding textOf header front
 written a = rw (← same-places (a .places))
 
@@ -96,8 +89,8 @@ events = record {
 pub places : Matching
 unfolding matching hasClass
 places = record {
-  says = λ watched sent e. let m = matches-says watched sent e in record { states = m .states; counties = m .counties; parts = m .parts };
-  from = λ watched sent m. matches-from watched sent (record { states = m .states; counties = m .counties; parts = m .parts });
+  says = matches-says;
+  from = matches-from;
   none = some-none;
   more = some-more;
   subscription = λ class places x. refl;

@@ -26,7 +26,8 @@ use Rattle.rules.proofs.Form.{plain-laws}
 use Rattle.history.proofs.Run.{afresh-after}
 use Rattle.history.proofs.Proved.{plain-book-and-history}
 use Rattle.book.specs.Answer.{said as saidEdit}
-use Rattle.book.specs.Promise.{AddPromise, RemovePromise, LoadPromise}
+use Rattle.book.specs.Promise.{AddPromise, RemovePromise}
+use Rattle.loads.specs.Promise.{LoadPromise}
 use Rattle.book.specs.declared.Edited.{Edited}
 use Rattle.book.specs.declared.Edited.the-variants.{Done}
 use Rattle.book.proofs.Impostors.{adds-first, removes-last}
@@ -37,7 +38,8 @@ use Rattle.report.specs.Promise.{ReportPromise}
 use Rattle.report.specs.declared.Answer.{Answer}
 use Rattle.report.specs.declared.Verdict.the-variants.{Granted}
 use Rattle.demands.specs.Calls.{Called}
-use Rattle.demands.specs.Texts.{sample, sampleSays, sampleClock, sampleRun}
+use Rattle.header.specs.Samples.{sample, sampleSays}
+use Rattle.demands.specs.Texts.{sampleClock, sampleRun}
 use Rattle.demands.specs.Impostors.{Impostors}
 use Rattle.demands.proofs.Calls.{calls, add-edits, remove-edits}
 use Rattle.demands.proofs.Demand3.{reports}

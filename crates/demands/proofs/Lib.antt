@@ -1,5 +1,7 @@
 pub mod Rows
 pub mod Calls
+pub mod Numbered
+pub mod Outside
 pub mod Demand1
 pub mod Demand2
 pub mod Demand3

@@ -19,7 +19,7 @@ use Rattle.clock.specs.declared.Clock.{Clock}
 use Rattle.rules.specs.Form.{plain, badClient}
 use Rattle.rules.specs.Rules.{good}
 use Rattle.report.specs.Report.{reportSays}
-use Rattle.demands.specs.Texts.{lasting, lasts}
+use Rattle.header.specs.Samples.{lasting, lasts}
 
 pub record BothSides : Type 0 where
   -- "bytes 54, 5A, 43 (hex) vote to 52, which none of them is": three bursts of one byte each

@@ -15,16 +15,17 @@ use Rattle.codec.specs.Codec.{no}
 use Rattle.burst.specs.Strip.{stripped}
 use Rattle.burst.specs.Vote.{votedLength, clashAt, tooLong, voteSays}
 use Rattle.burst.specs.Promise.{LeadingPromise, StripPromise, VotePromise, said as saidVote}
-use Rattle.header.specs.Header.{Alert, isOrigin, isEvent, isIssue, isSender, isDuration, header, textOf}
+use Rattle.header.specs.Header.{Alert, isOrigin, isEvent, isIssue, isSender, isDuration, start, origin, event, sender, header, textOf}
 use Rattle.header.specs.Reading.{readSays, ReadStops, TableStops}
 use Rattle.header.specs.Writing.{writeSays}
 use Rattle.header.specs.Answers.{said as saidRead, saidWrote, noFields}
-use Rattle.header.specs.Promise.{ReadPromise, WritePromise, IsIssuePromise, IsDurationPromise}
+use Rattle.header.specs.Promise.{ReadPromise, WritePromise, IsIssuePromise, IsDurationPromise, IsOriginPromise, IsEventPromise, IsSenderPromise, IsWrittenPromise}
 use Rattle.header.specs.declared.Fields.{Fields}
+use Rattle.fields.specs.Promise.{StandsPromise, PlaceAtPromise, MinutesAtPromise, IssueAtPromise}
 use Rattle.header.specs.declared.Answer.{Answer as Read}
 use Rattle.event.specs.Promise.{ListedPromise, ClassPromise, KindPromise}
 use Rattle.place.specs.FirstWord.{badPlace}
-use Rattle.place.specs.Promise.{MatchesPromise, MatchesSomePromise, FirstWordPromise, PlaceOfPromise, BadPlacePromise}
+use Rattle.place.specs.Promise.{MatchesPromise, MatchesSomePromise, FirstWordPromise, PlaceOfPromise, BadPlacePromise, PackPromise, PackPlacesPromise, PackedMatchSomePromise}
 use Rattle.clock.specs.Clock.{hasDay, isClock}
 use Rattle.clock.specs.Calendar.{dateOf}
 use Rattle.clock.specs.Lifetime.{yearOf, lifetimeOf, timesOf}
@@ -37,7 +38,12 @@ use Rattle.rules.specs.Edits.{stands, full, addSays, removeSays}
 use Rattle.rules.specs.Load.{loadSays, addAll, items}
 use Rattle.rules.specs.Afresh.{subs}
 use Rattle.book.specs.Answer.{said as saidEdit}
-use Rattle.book.specs.Promise.{BadClientPromise, BadWishPromise, ClientOfPromise, WishOfPromise, IsGoodPromise, AddPromise, RemovePromise, LoadPromise}
+use Rattle.records.specs.Promise.{BadClientPromise, BadWishPromise, ClientOfPromise, WishOfPromise, RankOfPromise, RankOrNonePromise}
+use Rattle.good.specs.Promise.{IsGoodPromise}
+use Rattle.moves.specs.Promise.{OpenPromise, ClosePromise}
+use Rattle.sorting.specs.Promise.{SortPromise}
+use Rattle.book.specs.Promise.{AddPromise, RemovePromise, AddEachPromise}
+use Rattle.loads.specs.Promise.{LoadPromise}
 use Rattle.report.specs.Hits.{hitsOf}
 use Rattle.report.specs.Report.{summaryOf, reportSays}
 use Rattle.report.specs.Promise.{ReportPromise}
@@ -46,10 +52,17 @@ use Rattle.report.specs.declared.Verdict.{Verdict}
 use Rattle.report.specs.declared.Verdict.the-variants.{Granted, Refused, RefusedAt}
 use Rattle.lines.specs.Promise.{NowLinePromise, ClientLinePromise, HeaderLinePromise, SubLinePromise}
 use Rattle.clock.specs.declared.Times.{Times}
+use Rattle.page_lines.specs.Promise.{SizePromise, PartsPromise}
 use Rattle.printing.specs.Page.{pageText, refusedText}
 use Rattle.printing.specs.Promise.{printSays, PrintPromise, saidPrinted}
 use Rattle.page.specs.Promise.{PagePromise}
-use Rattle.demands.specs.Forms.{LeavesNoChoice, LeavesNoChoiceOf, RefusalWritesNothing, GoesBy}
+use Rattle.burst.specs.declared.Voted.{Voted}
+use Rattle.header.specs.declared.Wrote.{Wrote}
+use Rattle.book.specs.declared.Edited.{Edited}
+use Rattle.printing.specs.declared.Printed.{Printed}
+use Rattle.answers.specs.Promise.{CapPromise, AnswerPromise, VotedPromise, EditedPromise, PrintedPromise, WrotePromise, YesPromise}
+use Rattle.demands.specs.Forms.{LeavesNoChoice, LeavesNoChoiceOf, RefusalWritesNothing, GoesBy, numbered}
+use Rattle.demands.specs.Outside.{OutsideCall, OutsideRefusal, OutsideNumber}
 
 -- ---- "Every public call": the table of all of them. Its promise leaves no choice: for each input, refusals too, the answer and the final
 -- content of lent space follow from it.
@@ -65,6 +78,17 @@ pub record EveryCall : Type 0 where
   pub write : (f : Fields) (out : List ℕ) → LeavesNoChoiceOf (λ r left. WritePromise f out left r)
   pub is-issue : (day hour minute : ℕ) → LeavesNoChoice (IsIssuePromise day hour minute)
   pub is-duration : (minutes : ℕ) → LeavesNoChoice (IsDurationPromise minutes)
+  pub is-origin : (b : List ℕ) → LeavesNoChoice (IsOriginPromise b)
+  pub is-event : (b : List ℕ) → LeavesNoChoice (IsEventPromise b)
+  pub is-sender : (b : List ℕ) → LeavesNoChoice (IsSenderPromise b)
+  pub is-written : (hours minutes : ℕ) → LeavesNoChoice (IsWrittenPromise hours minutes)
+  pub start-at : (text : List ℕ) (at : ℕ) → LeavesNoChoice (StandsPromise start text at)
+  pub origin-at : (text : List ℕ) (at : ℕ) → LeavesNoChoice (StandsPromise origin text at)
+  pub event-at : (text : List ℕ) (at : ℕ) → LeavesNoChoice (StandsPromise event text at)
+  pub sender-at : (text : List ℕ) (at : ℕ) → LeavesNoChoice (StandsPromise sender text at)
+  pub place-at : (text : List ℕ) (at : ℕ) → LeavesNoChoice (PlaceAtPromise text at)
+  pub minutes-at : (text : List ℕ) (at : ℕ) → LeavesNoChoice (MinutesAtPromise text at)
+  pub issue-at : (text : List ℕ) (at : ℕ) → LeavesNoChoice (IssueAtPromise text at)
   -- events
   pub is-listed : (a b c : ℕ) → LeavesNoChoice (ListedPromise a b c)
   pub class-of : (a b c : ℕ) → LeavesNoChoice (ClassPromise a b c)
@@ -75,6 +99,9 @@ pub record EveryCall : Type 0 where
   pub first-word : (place : ℕ) → LeavesNoChoice (FirstWordPromise place)
   pub place-of : (word : ℕ) → LeavesNoChoice (PlaceOfPromise word)
   pub bad-place : (place : ℕ) → LeavesNoChoice (BadPlacePromise place)
+  pub pack : (word : ℕ) → LeavesNoChoice (PackPromise word)
+  pub pack-places : (places : List ℕ) → LeavesNoChoice (PackPlacesPromise places)
+  pub packed-match-some : (watched : ℕ) (sent : List ℕ) → LeavesNoChoice (PackedMatchSomePromise watched sent)
   -- clocks
   pub check : (at : Clock) → LeavesNoChoice (CheckPromise at)
   pub date-of : (year day : ℕ) → LeavesNoChoice (DatePromise year day)
@@ -85,9 +112,15 @@ pub record EveryCall : Type 0 where
   pub bad-wish : (wish : ℕ) → LeavesNoChoice (BadWishPromise wish)
   pub client-of : (mark : ℕ) → LeavesNoChoice (ClientOfPromise mark)
   pub wish-of : (mark : ℕ) → LeavesNoChoice (WishOfPromise mark)
+  pub rank-of : (first client : ℕ) → LeavesNoChoice (RankOfPromise first client)
+  pub rank-or-none : (first second : ℕ) → LeavesNoChoice (RankOrNonePromise first second)
+  pub open-two : (words : List ℕ) (at end x y : ℕ) → LeavesNoChoice (OpenPromise words at end x y)
+  pub close-two : (words : List ℕ) (at end : ℕ) → LeavesNoChoice (ClosePromise words at end)
   pub is-good : (book : List ℕ) → LeavesNoChoice (IsGoodPromise book)
   pub add : (book : List ℕ) (place client wish : ℕ) → LeavesNoChoiceOf (AddPromise book place client wish)
   pub remove : (book : List ℕ) (place client : ℕ) → LeavesNoChoiceOf (RemovePromise book place client)
+  pub add-each : (book list : List ℕ) → LeavesNoChoiceOf (AddEachPromise book list)
+  pub sort : (numbers : List ℕ) → LeavesNoChoice (SortPromise numbers)
   pub load : (book list : List ℕ) → LeavesNoChoiceOf (LoadPromise book list)
   -- reports
   pub report : (book : List ℕ) (client : ℕ) (text : List ℕ) (at : Clock) (out : List ℕ) → LeavesNoChoiceOf (ReportPromise book client text at out)
@@ -96,6 +129,9 @@ pub record EveryCall : Type 0 where
   pub client-line : (input : List ℕ) (at : ℕ) → LeavesNoChoice (ClientLinePromise input at)
   pub header-line : (input : List ℕ) (at : ℕ) → LeavesNoChoice (HeaderLinePromise input at)
   pub sub-line : (input : List ℕ) (at : ℕ) → LeavesNoChoice (SubLinePromise input at)
+  pub size-of : (n : ℕ) → LeavesNoChoice (SizePromise n)
+  -- put_number, put_text, put_stamp, put_hits: each puts some parts of a page's lines
+  pub put-parts : (out : List ℕ) (at : ℕ) (parts : List (List ℕ)) → LeavesNoChoiceOf (λ r left. PartsPromise out at parts left r)
   pub print-refusal : (number : ℕ) (out : List ℕ) → LeavesNoChoiceOf (PrintPromise (refusedText number) out)
   pub print-page : (client : ℕ) (times : Times) (event : List ℕ) (listed : Bool) (class : ℕ) (hits out : List ℕ)
       → LeavesNoChoiceOf (PrintPromise (pageText client times event listed class hits) out)
@@ -106,7 +142,18 @@ pub record EveryCall : Type 0 where
   pub digits-at : (text : List ℕ) (at width : ℕ) → LeavesNoChoice (DigitsAtPromise text at width)
   pub put-byte : (out : List ℕ) (at b : ℕ) → LeavesNoChoiceOf (λ r left. PutPromise out at (b ∷ []) left r)
   pub put-bytes : (out : List ℕ) (at : ℕ) (src : List ℕ) → LeavesNoChoiceOf (λ r left. PutPromise out at src left r)
+  -- put_digits, and put_count for a wider number
   pub put-digits : (out : List ℕ) (at n width : ℕ) → LeavesNoChoiceOf (λ r left. PutPromise out at (dig width n) left r)
+  -- answers as one number
+  pub cap : (v : ℕ) → LeavesNoChoice (CapPromise v)
+  pub answer : (number beside : ℕ) → LeavesNoChoice (AnswerPromise number beside)
+  pub voted : (v : Voted) → LeavesNoChoice (VotedPromise v)
+  pub edited : (e : Edited) → LeavesNoChoice (EditedPromise e)
+  pub printed : (p : Printed) → LeavesNoChoice (PrintedPromise p)
+  pub wrote : (w : Wrote) → LeavesNoChoice (WrotePromise w)
+  pub yes : (b : Bool) → LeavesNoChoice (YesPromise b)
+  -- the 13 calls from outside, and the three over words that they hand on
+  pub outside : OutsideCall
 
 -- ---- "and a refusal writes nothing": the table of all calls that are lent space
 
@@ -134,6 +181,8 @@ pub record EveryRefusal : Type 0 where
   pub put : (out : List ℕ) (at : ℕ) (bytes left : List ℕ) (r : ℕ) → PutPromise out at bytes left r → length out < at + length bytes → left ≡ out
   -- `read` is lent nothing; what it hands back of a refused text is zeros
   pub read : (text : List ℕ) (r : Read) → ReadPromise text r → isRefusal (saidRead r) ≡ true → r .fields ≡ noFields
+  -- the calls from outside that are lent space
+  pub outside : OutsideRefusal
 
 -- ---- "Bad bursts, texts, clocks, books and edits are refused by the listed number": each call's numbers in its order, with the
 -- condition of each
@@ -230,7 +279,25 @@ pub record EveryNumber : Type 0 where
   -- what the program prints: 13
   pub print : (text : List ℕ) (room : ℕ) → GoesBy (refused 13 when ltb room (length text) ∷ []) (granted (length text)) (printSays text room)
 
+-- and whatever is refused has a number of the paper's list
+pub record EveryNumbered : Type 0 where
+  pub vote : (a b c : List ℕ) (room : ℕ) → numbered (voteSays a b c room) ≡ true
+  pub read : (text : List ℕ) → numbered (readSays text) ≡ true
+  pub write : (a : Alert) (room : ℕ) → numbered (writeSays a room) ≡ true
+  pub check : (at : Clock) → numbered (clockSays at) ≡ true
+  pub date-of : (year day : ℕ) → numbered (dateSays year day) ≡ true
+  pub lifetime : (at : Clock) (day hour minute duration : ℕ) → numbered (lifetimeSays at day hour minute duration) ≡ true
+  pub times-of : (at : Clock) (day hour minute duration : ℕ) → numbered (timesSays at day hour minute duration) ≡ true
+  pub add : (book : List ℕ) (place client wish : ℕ) → numbered (addSays plain book place client wish) ≡ true
+  pub remove : (book : List ℕ) (place client : ℕ) → numbered (removeSays plain book place client) ≡ true
+  pub load : (book list : List ℕ) → numbered (loadSays plain book list) ≡ true
+  pub report : (book : List ℕ) (client : ℕ) (text : List ℕ) (at : Clock) (room : ℕ) → numbered (reportSays book client text at room) ≡ true
+  pub print : (text : List ℕ) (room : ℕ) → numbered (printSays text room) ≡ true
+
 pub record Demand1 : Type 0 where
   pub every-call : EveryCall
   pub every-refusal : EveryRefusal
   pub every-number : EveryNumber
+  pub every-numbered : EveryNumbered
+  -- and the calls from outside say it in the low half of their answer
+  pub outside-number : OutsideNumber

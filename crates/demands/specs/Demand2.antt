@@ -3,7 +3,6 @@
 use Prim.Native.Nat.{ℕ, _+_, _-_, _*_, _/_, _%_, _≤_}
 use Prim.Native.Char.{code as letter}
 use mathlib.Core.Path.{_≡_}
-use mathlib.Core.Logic.{_⊎_}
 use mathlib.Core.Bool.{true, false, _&&_, _||_}
 use mathlib.Core.List.{List, [], _∷_, _++_}
 use lib.ListN.{length, take, drop, replicate, getD}
@@ -28,7 +27,8 @@ use Rattle.header.specs.declared.Answer.{Answer as Read}
 use Rattle.header.specs.declared.Wrote.{Wrote}
 use Rattle.event.specs.Events.{events, noDouble, isListed}
 use Rattle.event.specs.Class.{classOf}
-use Rattle.place.specs.Place.{part, state, county, matches, matchesSome}
+use Rattle.place.specs.Place.{matches, matchesSome}
+use Rattle.place.specs.Meaning.{Match}
 use Rattle.clock.specs.Clock.{hasDay}
 use Rattle.clock.specs.Calendar.{monthsOf, dated, split, dateOf}
 use Rattle.clock.specs.Lifetime.{stampOf, momentOf, issueOf, untilOf, lifetimeOf, timesOf}
@@ -57,6 +57,17 @@ placesText [] = []
 placesText (p ∷ []) = dig 6 p ++ ascii "+"
 placesText (p ∷ (q ∷ ps)) = dig 6 p ++ (ascii "-" ++ placesText (q ∷ ps))
 
+-- a text, spelled out
+abbrev pub wholeText : Alert → List ℕ
+wholeText a =
+    (ascii "ZCZC-"
+    ++ ((a .origin ++ ascii "-")
+    ++ ((a .event ++ ascii "-")
+    ++ (placesText (a .places)
+    ++ (((dig 2 (a .minutes / 60) ++ dig 2 (a .minutes % 60)) ++ ascii "-")
+    ++ ((dig 3 (a .day) ++ (dig 2 (a .hour) ++ dig 2 (a .minute))) ++ ascii "-"))))))
+    ++ (a .sender ++ ascii "-")
+
 pub record ReadingAndWriting : Type 0 where
   -- "A text is read exactly if it has that form."
   pub reads-exactly : (text : List ℕ) (a : Alert)
@@ -65,14 +76,7 @@ pub record ReadingAndWriting : Type 0 where
   pub nothing-left : (text : List ℕ) (a : Alert) → readSays text ≡ granted a → header .get text 0 ≡ got (partsOf a) [] (length text)
   -- that form: the fields that the table allows, and the text ZCZC-ORG-EEE-PSSCCC-..-PSSCCC+TTTT-JJJHHMM-LLLLLLLL-
   pub form : (a : Alert) → (WellFormed a → Allowed a) × (Allowed a → WellFormed a)
-  pub text : (a : Alert) → textOf a
-      ≡ (ascii "ZCZC-"
-      ++ ((a .origin ++ ascii "-")
-      ++ ((a .event ++ ascii "-")
-      ++ (placesText (a .places)
-      ++ (((dig 2 (a .minutes / 60) ++ dig 2 (a .minutes % 60)) ++ ascii "-")
-      ++ ((dig 3 (a .day) ++ (dig 2 (a .hour) ++ dig 2 (a .minute))) ++ ascii "-"))))))
-      ++ (a .sender ++ ascii "-")
+  pub text : (a : Alert) → textOf a ≡ wholeText a
   -- a text with n places has 35 + 7 × n bytes: 42 to 252
   pub text-length : (a : Alert) → WellFormed a → (length (textOf a) ≡ 35 + 7 * length (a .places)) × (1 ≤ length (a .places)) × (length (a .places) ≤ 31)
   -- "Written fields read back the same": whatever `write` granted, `read` reads to those fields. Entries past the count, which no text
@@ -110,16 +114,6 @@ pub record Events : Type 0 where
   pub class-low : (e : List ℕ) → classOf e ≤ 6
 
 -- ---- ".. place matching .."
-
--- equal, or either is 0
-abbrev pub Meet : ℕ → ℕ → Type 0
-Meet a b = (a ≡ b) ⊎ ((a ≡ 0) ⊎ (b ≡ 0))
-
--- SS is equal, CCC is equal or either is 000, and P is equal or either is 0
-pub record Match (watched sent : ℕ) : Type 0 where
-  pub states : state watched ≡ state sent
-  pub counties : Meet (county watched) (county sent)
-  pub parts : Meet (part watched) (part sent)
 
 pub record Matching : Type 0 where
   pub says : (watched sent : ℕ) → matches watched sent ≡ true → Match watched sent

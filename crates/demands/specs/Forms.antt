@@ -1,10 +1,11 @@
--- The three forms of statement that demand 1 makes of every call.
+-- The forms of statement that demand 1 makes of every call.
 use mathlib.Core.Path.{_≡_}
 use mathlib.Core.Logic.{_⊎_}
-use mathlib.Core.Bool.{true}
+use mathlib.Core.Bool.{Bool, true}
 use mathlib.Core.List.{List}
 use Prim.Native.Nat.{ℕ}
-use Rattle.laws.specs.Order.{Said, Row, First, Quiet, isRefusal}
+use Rattle.laws.specs.Order.{Said, granted, refused, refusedAt, Row, First, Quiet, isRefusal}
+use Rattle.laws.specs.Numbers.{within}
 
 -- any two answers that meet a promise are equal
 abbrev pub LeavesNoChoice : {A : Type 0} → (A → Type 0) → Type 0
@@ -24,3 +25,13 @@ pub record GoesBy {A : Type 0} (rows : List (Row A)) (last said : A) : Type 0 wh
   pub one-of : First said rows ⊎ (Quiet rows × (said ≡ last))
   pub first : (x : A) → First x rows → said ≡ x
   pub none : Quiet rows → said ≡ last
+
+-- a number of the paper's list
+abbrev pub isNumber : ℕ → Bool
+isNumber n = within 1 23 n
+
+-- what is said is granted, or refused by a number of the list
+abbrev pub numbered : {A : Type 0} → Said A → Bool
+numbered (granted a) = true
+numbered (refused n) = isNumber n
+numbered (refusedAt n i) = isNumber n

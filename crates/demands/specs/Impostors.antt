@@ -16,14 +16,16 @@ use Rattle.rules.specs.Edits.{added}
 use Rattle.rules.specs.Load.{items}
 use Rattle.rules.specs.Afresh.{Afresh}
 use Rattle.rules.specs.History.{Edit, standingFrom}
-use Rattle.book.specs.Promise.{AddPromise, RemovePromise, LoadPromise}
+use Rattle.book.specs.Promise.{AddPromise, RemovePromise}
+use Rattle.loads.specs.Promise.{LoadPromise}
 use Rattle.book.specs.declared.Edited.{Edited}
 use Rattle.book.specs.declared.Edited.the-variants.{Done}
 use Rattle.report.specs.Promise.{ReportPromise}
 use Rattle.report.specs.declared.Answer.{Answer as Reported}
 use Rattle.report.specs.declared.Verdict.the-variants.{Granted}
 use Rattle.demands.specs.Calls.{Called}
-use Rattle.demands.specs.Texts.{sample, sampleSays, lasting, sampleClock, sampleRun}
+use Rattle.header.specs.Samples.{sample, sampleSays, lasting}
+use Rattle.demands.specs.Texts.{sampleClock, sampleRun}
 
 pub record Impostors : Type 0 where
   -- "Refuses always: shut out by demand 2, which reads every text of the form." The sample is one

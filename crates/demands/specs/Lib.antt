@@ -1,6 +1,7 @@
 pub mod Forms
 pub mod Texts
 pub mod Calls
+pub mod Outside
 pub mod Demand1
 pub mod Demand2
 pub mod Demand3

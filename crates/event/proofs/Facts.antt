@@ -1,7 +1,7 @@
 -- The list has 61 codes and no double, and every code has one class from 0 to 6. Assumes nothing.
 use mathlib.Core.Path.{_≡_, refl}
 use mathlib.Core.Bool.{Bool, true, false}
-use mathlib.Core.List.{List, [], _∷_}
+use mathlib.Core.List.{List}
 use Prim.Native.Char.{code as letter}
 use lib.Dec.{eqb}
 use Prim.Native.Nat.{ℕ, _≤_}
@@ -11,6 +11,7 @@ use Rattle.laws.specs.Order.{choose}
 use Rattle.laws.specs.Text.{oneOf}
 use Rattle.event.specs.Events.{events, noDouble}
 use Rattle.event.specs.Class.{classOf, byThird}
+use Rattle.event.proofs.Named.{class0, class1, class3, class5, class6}
 
 pub sixty-one : length events ≡ 61
 unfolding events
@@ -36,8 +37,8 @@ by-third-low x =
 pub class-low : (e : List ℕ) → classOf e ≤ 6
 unfolding classOf
 class-low e =
-    row (oneOf ("TXF" ∷ "TXO" ∷ "TXB" ∷ "TXP" ∷ []) e) 0 _ (omega arith)
-    (row (oneOf ("TOR" ∷ "SVR" ∷ []) e) 1 _ (omega arith)
-    (row (oneOf ("EVI" ∷ "BLU" ∷ "CEM" ∷ []) e) 3 _ (omega arith)
-    (row (oneOf ("NPT" ∷ "RMT" ∷ "RWT" ∷ "DMO" ∷ []) e) 5 _ (omega arith)
-    (row (oneOf ("EAN" ∷ "NIC" ∷ "ADR" ∷ "NMN" ∷ []) e) 6 _ (omega arith) (by-third-low (getD e 2 0))))))
+    row (oneOf class0 e) 0 _ (omega arith)
+    (row (oneOf class1 e) 1 _ (omega arith)
+    (row (oneOf class3 e) 3 _ (omega arith)
+    (row (oneOf class5 e) 5 _ (omega arith)
+    (row (oneOf class6 e) 6 _ (omega arith) (by-third-low (getD e 2 0))))))

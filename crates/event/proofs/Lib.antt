@@ -1,3 +1,5 @@
 pub mod Search
+pub mod Keys
+pub mod Named
 pub mod Facts
 pub mod NoChoice

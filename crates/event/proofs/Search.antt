@@ -1,20 +1,18 @@
--- The search in the list of codes, and the class of what it finds or not. Assumes nothing.
+-- The search in the list of codes, and the class of what it finds. Assumes nothing.
 use mathlib.Core.Path.{_≡_, refl, sym, ap, _∙_}
-use mathlib.Core.Bool.{Bool, true, false, _||_, and-true}
+use mathlib.Core.Bool.{Bool, true, false, and-true}
 use mathlib.Core.List.{List, [], _∷_}
 use Prim.Native.Nat.{ℕ, _+_, _≤_, _<_}
-use Prim.Native.String.{String}
 use native.Mathlib.Omega.{arith}
-use borrow.Author.Tests.{lt-ltb, le-ltb, eqb-true}
+use borrow.Author.Tests.{lt-ltb, eqb-true}
 use lib.Dec.{eqb}
 use lib.ListN.{length, getD, drop}
 use Rattle.laws.specs.Lists.{same, some, every}
-use Rattle.laws.specs.Text.{ascii, oneOf}
-use Rattle.laws.proofs.Tests.{and-l, and-r, no-both}
+use Rattle.laws.specs.Text.{ascii}
 use Rattle.laws.proofs.Every.{same-eq}
 use Rattle.laws.proofs.Rows.{every-at, some-here, some-next, some-map}
 use Rattle.event.specs.Events.{events, code, isListed}
-use Rattle.event.specs.Class.{classOf, byThird}
+use Rattle.event.specs.Class.{classOf}
 use Rattle.event.specs.Steps.{codes, spells, Found}
 
 pub count : length codes ≡ 61
@@ -69,35 +67,7 @@ ended e k a b q =
       stands = λ l. absurd (omega arith);
     }
 
--- ---- the class of what was found, and of what was not
+-- ---- the class of what was found
 
 pub listed-class : (e : List ℕ) (k : ℕ) → Found e k → k < 61 → classOf (getD codes k []) ≡ classOf e
 listed-class e k f h = ap classOf (f .stands h)
-
--- a code that is not listed is none of some words that are
-abbrev listedWords : List String → Bool
-listedWords = every (λ w. isListed (ascii w))
-
-none-of : (e : List ℕ) (l : List String) → isListed e ≡ false → listedWords l ≡ true → oneOf l e ≡ false
-none-of e [] u a = refl
-none-of e (w ∷ l) u a =
-    by (same e (ascii w)) refl (and-l (isListed (ascii w)) (listedWords l) a)
-    (none-of e l u (and-r (isListed (ascii w)) (listedWords l) a))
-  where
-    by : (b : Bool) → same e (ascii w) ≡ b → isListed (ascii w) ≡ true → oneOf l e ≡ false → (b || oneOf l e) ≡ false
-    by true q i k = no-both (isListed e) (ap isListed (same-eq e (ascii w) q) ∙ i) u
-    by false q i k = k
-
-pub unlisted : (e : List ℕ) → isListed e ≡ false → byThird (getD e 2 0) ≡ classOf e
-unfolding classOf isListed events
-unlisted e u =
-    rw (
-      none-of e ("TXF" ∷ "TXO" ∷ "TXB" ∷ "TXP" ∷ []) u refl,
-      none-of e ("TOR" ∷ "SVR" ∷ []) u refl,
-      none-of e ("EVI" ∷ "BLU" ∷ "CEM" ∷ []) u refl,
-      none-of e ("NPT" ∷ "RMT" ∷ "RWT" ∷ "DMO" ∷ []) u refl,
-      none-of e ("EAN" ∷ "NIC" ∷ "ADR" ∷ "NMN" ∷ []) u refl,
-    )
-
-pub unlisted-class : (e : List ℕ) (k : ℕ) → Found e k → 61 ≤ k → byThird (getD e 2 0) ≡ classOf e
-unlisted-class e k f h = unlisted e (sym (f .listed) ∙ le-ltb k 61 h)

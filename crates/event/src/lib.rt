@@ -4,9 +4,9 @@ ghost use Prim.Native.Nat.{_<_};
 ghost use mathlib.Core.List.{[]};
 ghost use lib.ListN.{getD};
 ghost use Rattle.event.specs.Events.{code};
-ghost use Rattle.event.specs.Class.{classOf, byThird};
+ghost use Rattle.event.specs.Class.{byThird, classOf};
 ghost use Rattle.event.specs.Promise.{ListedPromise, ClassPromise, KindPromise};
-ghost use Rattle.event.specs.Steps.{codes, spells, Found};
+ghost use Rattle.event.specs.Steps.{codes, spells, Found, key};
 
 // The 61 codes, in the paper's order.
 const EVENTS: [[u8; 3]; 61] = [
@@ -144,13 +144,7 @@ pub struct Kind {
     pub class: u32,
 }
 
-// Code k of the list.
-fn code_at(k: usize) -> [u8; 3]
-    requires { ⌜ k < 61 ⌝ }
-    ensures { λ r. ⌜ r ≡ getD codes k [] ⌝ }
-{
-    EVENTS[k]
-}
+// ---- the search in the list
 
 // The class of code k of the list.
 fn class_at(k: usize) -> u32
@@ -173,13 +167,15 @@ fn is_code(row: [u8; 3], a: u8, b: u8, c: u8) -> bool
     c == row[2]
 }
 
-// Where a code stands in the list, or 61. One look at each row, up to the one that is it.
-fn find(a: u8, b: u8, c: u8) -> usize
+// Where a code stands in the list, or 61. One look at each row, up to the one that is it. The list is handed over once: a constant
+// that is read by its name in a loop is copied at each turn.
+fn look(rows: [[u8; 3]; 61], a: u8, b: u8, c: u8) -> usize
+    requires { ⌜ rows ≡ codes ⌝ }
     ensures { λ r. ⌜ Found (code a b c) r ⌝ }
 {
     let mut k: usize = 0;
     while k < 61 {
-        if is_code(code_at(k), a, b, c) {
+        if is_code(rows[k], a, b, c) {
             return k;
         }
         k += 1;
@@ -187,18 +183,84 @@ fn find(a: u8, b: u8, c: u8) -> usize
     61
 }
 
-// The class that a third letter says.
-fn by_third(third: u8) -> u32
-    ensures { λ r. ⌜ r ≡ byThird third ⌝ }
+fn find(a: u8, b: u8, c: u8) -> usize
+    ensures { λ r. ⌜ Found (code a b c) r ⌝ }
 {
-    match third {
+    look(EVENTS, a, b, c)
+}
+
+// Whether a code is listed.
+pub fn is_listed(a: u8, b: u8, c: u8) -> bool
+    ensures { λ r. ⌜ ListedPromise a b c r ⌝ }
+{
+    find(a, b, c) < 61
+}
+
+// ---- the class of one code, with no search
+
+// Each as one number, so that one comparison tests three letters: two hexadecimal digits a letter, then two zeros, so that none is
+// the next number after another.
+const TXF: u32 = 0x54584600;
+
+const TXO: u32 = 0x54584F00;
+
+const TXB: u32 = 0x54584200;
+
+const TXP: u32 = 0x54585000;
+
+const TOR: u32 = 0x544F5200;
+
+const SVR: u32 = 0x53565200;
+
+const EVI: u32 = 0x45564900;
+
+const BLU: u32 = 0x424C5500;
+
+const CEM: u32 = 0x43454D00;
+
+const NPT: u32 = 0x4E505400;
+
+const RMT: u32 = 0x524D5400;
+
+const RWT: u32 = 0x52575400;
+
+const DMO: u32 = 0x444D4F00;
+
+// Three bytes as one number.
+fn key_of(a: u8, b: u8, c: u8) -> u32
+    ensures { λ r. ⌜ r ≡ key a b c ⌝ }
+{
+    a as u32 * 16777216 + b as u32 * 65536 + c as u32 * 256
+}
+
+// The class of a code whose third letter says 6.
+fn named_class(a: u8, b: u8, c: u8) -> u32
+    requires { ⌜ byThird c ≡ 6 ⌝ }
+    ensures { λ r. ⌜ r ≡ classOf (code a b c) ⌝ }
+{
+    match key_of(a, b, c) {
+        TXF | TXO | TXB | TXP => 0,
+        TOR | SVR => 1,
+        EVI | BLU | CEM => 3,
+        NPT | RMT | RWT | DMO => 5,
+        _ => 6,
+    }
+}
+
+// The class of a code, listed or not. No code that the paper names ends with one of these four letters, so the third is tested first.
+pub fn class_of(a: u8, b: u8, c: u8) -> u32
+    ensures { λ r. ⌜ ClassPromise a b c r ⌝ }
+{
+    match c {
         b'W' => 1,
         b'A' => 2,
         b'E' => 3,
         b'S' => 4,
-        _ => 6,
+        _ => named_class(a, b, c),
     }
 }
+
+// ---- both
 
 // Whether a code is listed and which class it has, in one search.
 pub fn kind_of(a: u8, b: u8, c: u8) -> Kind
@@ -213,20 +275,6 @@ pub fn kind_of(a: u8, b: u8, c: u8) -> Kind
     }
     Kind {
         listed: false,
-        class: by_third(c),
+        class: class_of(a, b, c),
     }
-}
-
-// Whether a code is listed.
-pub fn is_listed(a: u8, b: u8, c: u8) -> bool
-    ensures { λ r. ⌜ ListedPromise a b c r ⌝ }
-{
-    find(a, b, c) < 61
-}
-
-// The class of a code, listed or not.
-pub fn class_of(a: u8, b: u8, c: u8) -> u32
-    ensures { λ r. ⌜ ClassPromise a b c r ⌝ }
-{
-    kind_of(a, b, c).class
 }

@@ -1,36 +1,21 @@
 -- Worked examples, each of reading a whole text; by computation. Assumes nothing.
 use Prim.Native.Nat.{ℕ, zero, suc}
-use Prim.Native.String.{String}
 use mathlib.Core.Path.{_≡_, refl, ap, _∙_}
-use mathlib.Core.List.{List, [], _∷_, _++_}
+use mathlib.Core.List.{List, [], _++_}
 use native.Mathlib.Omega.{arith}
 use lib.ListN.{take}
 use Rattle.laws.specs.Order.{granted, refusedAt}
 use Rattle.laws.specs.Text.{ascii}
 use Rattle.codec.specs.Codec.{fits}
-use Rattle.header.specs.Header.{Alert, front, header, textOf}
+use Rattle.header.specs.Header.{front, header, textOf}
 use Rattle.header.specs.Reading.{readSays}
+use Rattle.header.specs.Samples.{sample, sampleSays, lasting, lasts}
 use Rattle.header.specs.Answers.{fieldsFor}
 use Rattle.header.specs.Promise.{ReadPromise}
 use Rattle.header.specs.declared.Answer.{Answer}
 use Rattle.header.specs.declared.Fields.{Fields}
 
 -- ---- the sample of the paper
-
-abbrev pub sample : List ℕ
-sample = ascii "ZCZC-WXR-TOR-039173-039051-139069+0030-1591829-KCLE/NWS-"
-
-abbrev pub sampleSays : Alert
-sampleSays = record {
-  origin = ascii "WXR";
-  event = ascii "TOR";
-  places = 39173 ∷ 39051 ∷ 139069 ∷ [];
-  minutes = 30;
-  day = 159;
-  hour = 18;
-  minute = 29;
-  sender = ascii "KCLE/NWS";
-}
 
 pub sample-reads : readSays sample ≡ granted sampleSays
 unfolding readSays header front fits
@@ -50,21 +35,6 @@ unfolding readSays header front fits
 sample-long = refl
 
 -- ---- durations: 0130 is 90 minutes, 9930 is 5,970; 0115 and 0000 give 9, at the field
-
-abbrev pub lasting : String → List ℕ
-lasting hhmm = ascii "ZCZC-WXR-TOR-039173+" ++ (ascii hhmm ++ ascii "-1591829-KCLE/NWS-")
-
-abbrev pub lasts : ℕ → Alert
-lasts m = record {
-  origin = ascii "WXR";
-  event = ascii "TOR";
-  places = 39173 ∷ [];
-  minutes = m;
-  day = 159;
-  hour = 18;
-  minute = 29;
-  sender = ascii "KCLE/NWS";
-}
 
 pub d0130 : readSays (lasting "0130") ≡ granted (lasts 90)
 unfolding readSays header front fits

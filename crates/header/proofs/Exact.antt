@@ -1,18 +1,20 @@
 -- Reading and writing at the level of the two calls' promises: what was written reads back, and what was read writes back. The
 -- paper's sentence on numbers, for the writer. Assumes nothing.
 use Prim.Native.Nat.{ℕ, _+_, _-_, _≤_, _<_}
-use mathlib.Core.Path.{_≡_, sym, ap, _∙_}
+use mathlib.Core.Path.{_≡_, refl, sym, ap, _∙_}
 use mathlib.Core.Logic.{_⊎_}
-use mathlib.Core.List.{List, []}
+use mathlib.Core.List.{List, [], _∷_}
+use mathlib.Core.Bool.{Bool, false}
 use native.Mathlib.Omega.{arith}
 use lib.ListN.{length, take, drop, replicate}
 use lib.Seq.{take-at}
 use lib.Dec.{ltb}
-use borrow.Author.Tests.{le-ltb, lt-ltb}
+use borrow.Author.Tests.{le-ltb, lt-ltb, ltb-false}
 use Rattle.laws.specs.Order.{Said, granted, refused, _when_, Quiet, none, more, First}
 use Rattle.laws.specs.Space.{pasted, leaves}
-use Rattle.laws.proofs.Order.{exactly, said-last, given, quiet-groups}
-use Rattle.header.specs.Header.{Alert, header, partsOf, textOf, WellFormed}
+use Rattle.laws.proofs.Order.{exactly, said-last, given, quiet-groups, granted-quiet}
+use Rattle.laws.proofs.Quiet.{quiet-left, quiet-right}
+use Rattle.header.specs.Header.{Alert, front, header, partsOf, textOf, WellFormed}
 use Rattle.header.specs.Reading.{readSays}
 use Rattle.header.specs.Writing.{writeRows, writeSays}
 use Rattle.header.specs.Answers.{alertIn, fieldsOf, fieldsFor, said, saidWrote}
@@ -22,7 +24,6 @@ use Rattle.header.specs.declared.Answer.{Answer}
 use Rattle.header.specs.declared.Wrote.{Wrote}
 use Rattle.header.proofs.Round.{read-form, form-read}
 use Rattle.header.proofs.Says.{kept, filled}
-use Rattle.header.proofs.Judged.{grants}
 
 -- ---- the writer's numbers: what it says is said by the first row that holds, or no row holds and the text is written
 
@@ -37,6 +38,28 @@ form-write a room w h = said-last (writeRows a room) (granted (length (textOf a)
 pub form-no-room : (a : Alert) (room : ℕ) → WellFormed a → room < length (textOf a) → writeSays a room ≡ refused 13
 unfolding writeSays WellFormed
 form-no-room a room w h = given (header .faults (partsOf a)) (refused 13 when ltb room (length (textOf a))) [] (granted (length (textOf a))) w (lt-ltb room (length (textOf a)) h)
+
+-- ---- granted only where all is allowed and there is room
+
+pub record Grants (a : Alert) (lent n : ℕ) : Type 0 where
+  pub fine : WellFormed a
+  pub long : length (textOf a) ≡ n
+  pub room : n ≤ lent
+
+pub grants : (a : Alert) (room n : ℕ) → writeSays a room ≡ granted n → Grants a room n
+unfolding writeSays WellFormed header front
+grants a room n e =
+    let q : Quiet (writeRows a room) = granted-quiet (writeRows a room) (length (textOf a)) n (refl, (refl, (refl, (refl, (refl, (refl, (refl, (refl, tt)))))))) e in
+    let l : granted (length (textOf a)) ≡ granted n = sym (said-last (writeRows a room) (granted (length (textOf a))) q) ∙ e in
+    let m : length (textOf a) ≡ n = cc in
+    record {
+      fine = quiet-left (header .faults (partsOf a)) (refused 13 when ltb room (length (textOf a)) ∷ []) q;
+      long = m;
+      room = omega (arith, ltb-false room (length (textOf a)) (quiet-head (quiet-right (header .faults (partsOf a)) (refused 13 when ltb room (length (textOf a)) ∷ []) q)));
+    }
+  where
+    quiet-head : {x : Said ℕ} {b : Bool} → Quiet (x when b ∷ []) → b ≡ false
+    quiet-head (more h none) = h
 
 -- ---- fields that were written read back the same
 

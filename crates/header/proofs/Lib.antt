@@ -1,11 +1,7 @@
 pub mod Round
 pub mod Allowed
-pub mod Numbers
-pub mod Listing
 pub mod Stages
 pub mod Says
-pub mod Marked
-pub mod Judged
 pub mod NoChoice
 pub mod Exact
 pub mod Callers

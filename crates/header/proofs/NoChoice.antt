@@ -12,7 +12,7 @@ use Rattle.header.specs.Header.{Alert, textOf}
 use Rattle.header.specs.Reading.{readSays}
 use Rattle.header.specs.Writing.{writeSays}
 use Rattle.header.specs.Answers.{verdictSays, said, saidWrote, fieldsFor, noFields, alertIn}
-use Rattle.header.specs.Promise.{ReadPromise, WritePromise, IsIssuePromise, IsDurationPromise}
+use Rattle.header.specs.Promise.{ReadPromise, WritePromise, IsIssuePromise, IsDurationPromise, IsOriginPromise, IsEventPromise, IsSenderPromise, IsWrittenPromise}
 use Rattle.header.specs.declared.Fields.{Fields}
 use Rattle.header.specs.declared.Answer.{Answer}
 use Rattle.header.specs.declared.Verdict.{Verdict}
@@ -60,10 +60,22 @@ pub write-refusal-writes-nothing : {f : Fields} {d d1 : List ℕ} {r : Wrote} �
 write-refusal-writes-nothing {f} {d} p h =
     p .space ∙ refusal-leaves (λ n out. pasted out 0 (textOf (alertIn f))) (writeSays (alertIn f) (length d)) d (sym (ap isRefusal (p .says)) ∙ h)
 
--- ---- the two tests
+-- ---- the tests
 
 pub is-issue-no-choice : {d h m : ℕ} {r s : Bool} → IsIssuePromise d h m r → IsIssuePromise d h m s → r ≡ s
 is-issue-no-choice p q = p .says ∙ sym (q .says)
 
 pub is-duration-no-choice : {m : ℕ} {r s : Bool} → IsDurationPromise m r → IsDurationPromise m s → r ≡ s
 is-duration-no-choice p q = p .says ∙ sym (q .says)
+
+pub is-origin-no-choice : {b : List ℕ} {r s : Bool} → IsOriginPromise b r → IsOriginPromise b s → r ≡ s
+is-origin-no-choice p q = p .says ∙ sym (q .says)
+
+pub is-event-no-choice : {b : List ℕ} {r s : Bool} → IsEventPromise b r → IsEventPromise b s → r ≡ s
+is-event-no-choice p q = p .says ∙ sym (q .says)
+
+pub is-sender-no-choice : {b : List ℕ} {r s : Bool} → IsSenderPromise b r → IsSenderPromise b s → r ≡ s
+is-sender-no-choice p q = p .says ∙ sym (q .says)
+
+pub is-written-no-choice : {h m : ℕ} {r s : Bool} → IsWrittenPromise h m r → IsWrittenPromise h m s → r ≡ s
+is-written-no-choice p q = p .says ∙ sym (q .says)

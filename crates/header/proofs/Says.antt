@@ -1,4 +1,4 @@
--- What reading says, by how far it came; and the promise of `read` from that. Assumes nothing.
+-- What reading says, by how far it came; and what fields say. Assumes nothing.
 use Prim.Native.Nat.{ℕ, _-_, _≤_, _<_}
 use mathlib.Core.Path.{_≡_, refl, sym, ap, _∙_}
 use mathlib.Core.List.{List, [], _∷_, _++_}
@@ -11,11 +11,8 @@ use Rattle.codec.specs.Codec.{got, no, field}
 use Rattle.codec.proofs.Stages.{At, begin, next}
 use Rattle.header.specs.Header.{dash, sender, Front, front, header, Alert, alertOf}
 use Rattle.header.specs.Reading.{readSays}
-use Rattle.header.specs.Answers.{counted, alertIn, fieldsOf, fieldsFor}
-use Rattle.header.specs.Promise.{ReadPromise}
-use Rattle.header.specs.Steps.{frontIn, noAnswer}
+use Rattle.header.specs.Answers.{counted, alertIn, fieldsOf}
 use Rattle.header.specs.declared.Fields.{Fields}
-use Rattle.header.specs.declared.Verdict.the-variants.{Granted}
 use Rattle.header.proofs.Round.{front-law}
 
 module _ (t : List ℕ) where
@@ -60,11 +57,6 @@ module _ (t : List ℕ) where
   unfolding header
   at-sender h j e = next front (field 11 sender dash) (begin t header 0 (omega arith)) front-law h (drop j t) j e
 
-  -- ---- the promise
-
-  pub no-answer : (n i : ℕ) → readSays t ≡ refusedAt n i → ReadPromise t (noAnswer n i)
-  no-answer n i e = record { says = sym e; fields = sym (ap fieldsFor e) }
-
 -- ---- fields and what they say
 
 -- as many places as are counted
@@ -93,13 +85,3 @@ module _ (f : Fields) (low : f .count ≤ 31) (rest : drop (f .count) (f .places
       ∙ (λ q. sym (counted-take (f .places) (f .count) (omega arith)) q ++ rest q)
       ∙ ap (λ (m : ℕ). counted (f .places) (f .count) ++ replicate (31 - m) 0) (sym n) in
       λ q. record { origin = f .origin; event = f .event; places = e q; count = sym n q; duration = f .duration; day = f .day; hour = f .hour; minute = f .minute; sender = f .sender }
-
-  same-alert : alertOf (frontIn f, f .sender) ≡ alertIn f
-  same-alert =
-      let e : take (f .count) (f .places) ≡ counted (f .places) (f .count) = sym (counted-take (f .places) (f .count) (omega arith)) in
-      λ q. record { origin = f .origin; event = f .event; places = e q; minutes = f .duration; day = f .day; hour = f .hour; minute = f .minute; sender = f .sender }
-
-  pub an-answer : (t : List ℕ) → readSays t ≡ granted (alertOf (frontIn f, f .sender)) → ReadPromise t (record { verdict = Granted; fields = f })
-  an-answer t e =
-      let g : readSays t ≡ granted (alertIn f) = e ∙ ap granted same-alert in
-      record { says = sym g; fields = filled ∙ sym (ap fieldsFor g) }

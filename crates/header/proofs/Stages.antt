@@ -10,8 +10,7 @@ use Rattle.codec.specs.Law.{Lawful}
 use Rattle.codec.proofs.CodecLaws.{field-law}
 use Rattle.codec.proofs.Stages.{At, begin, stop, next, last, last-stop, field-no, field-yes}
 use Rattle.header.specs.Header.{dash, start, origin, event, duration, issue, Front, front}
-use Rattle.header.specs.Steps.{places, times, OpeningOf, noOpening}
-use Rattle.header.specs.declared.End.the-variants.{Fault}
+use Rattle.header.specs.Parts.{places, times}
 use Rattle.header.proofs.Round.{start-law, origin-law, event-law, duration-law, places-law}
 
 -- ---- what is left of the table
@@ -85,8 +84,3 @@ module _ (t : List ℕ) (at : ℕ) (h : at ≤ length t) where
     pub both-times : (d h n : ℕ) → got (d, (h, n)) (drop (at + 5 + 8) t) (at + 5 + 8) ≡ field 10 issue dash .get (drop (at + 5) t) (at + 5)
         → got (m, (d, (h, n))) (drop (at + 5 + 8) t) (at + 5 + 8) ≡ times .get (drop at t) at
     both-times d h n e = sym (last at-issue (d, (h, n)) (drop (at + 5 + 8) t) (at + 5 + 8) (sym e))
-
--- ---- the answer
-
-pub no-opening : (t : List ℕ) (n i : ℕ) → front .get t 0 ≡ no n i → OpeningOf t (noOpening (Fault n i))
-no-opening t n i e = record { says = sym e; low = omega arith; rest = refl; len = refl }

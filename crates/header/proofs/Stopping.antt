@@ -16,7 +16,7 @@ use Rattle.codec.proofs.Stages.{At, stop, next, last, last-stop, left-is, field
 use Rattle.codec.proofs.Stops.{list-stops, stops-list, then-stops, stops-then}
 use Rattle.header.specs.Header.{dash, plus, start, origin, event, place, duration, issue, sender, Front, front, header}
 use Rattle.header.specs.Reading.{toTheEnd, readSays, ReadStops, long, field as in-field, left, Opened, Listed, TableStops, at-start, at-origin, at-event, at-place, at-duration, at-issue, at-sender}
-use Rattle.header.specs.Steps.{places, times}
+use Rattle.header.specs.Parts.{places, times}
 use Rattle.header.proofs.Round.{duration-law, places-law}
 use Rattle.header.proofs.Stages.{no-start, no-origin, no-event, at-13, no-list, at-times}
 use Rattle.header.proofs.Says.{over, stops, left-over, no-front, at-sender as before-sender}

@@ -1,9 +1,8 @@
 -- The answers of the calls, in the paper's numbers and values.
 use Prim.Native.Nat.{ℕ, _-_}
 use mathlib.Core.List.{List, _++_}
-use lib.ListN.{length, take, drop, replicate}
+use lib.ListN.{length, take, replicate}
 use Rattle.laws.specs.Order.{Said, granted, refused, refusedAt}
-use Rattle.codec.specs.Codec.{Out, got, no}
 use Rattle.header.specs.Header.{Alert}
 use Rattle.header.specs.declared.Fields.{Fields}
 use Rattle.header.specs.declared.Verdict.{Verdict}
@@ -11,8 +10,6 @@ use Rattle.header.specs.declared.Verdict.the-variants.{Granted, RefusedA
 use Rattle.header.specs.declared.Answer.{Answer}
 use Rattle.header.specs.declared.Wrote.{Wrote}
 use Rattle.header.specs.declared.Wrote.the-variants.{Written, Refused}
-use Rattle.header.specs.declared.Place.{Place}
-use Rattle.header.specs.declared.Place.the-variants.{Code, Stop}
 
 -- ---- the fields that a call is handed or hands back: 31 places, of which `count` stand
 
@@ -78,9 +75,3 @@ said r = verdictSays (r .verdict) (r .fields)
 abbrev pub saidWrote : Wrote → Said ℕ
 saidWrote (Written n) = granted n
 saidWrote (Refused n) = refused n
-
--- the place step over a text: a code, with the index after it and what stands there; or the number and the index at which
--- reading stops
-abbrev pub placeSays : List ℕ → Place → Out ℕ
-placeSays text (Code code next) = got code (drop next text) next
-placeSays text (Stop n i) = no n i

@@ -3,4 +3,5 @@ pub mod Reading
 pub mod Writing
 pub mod Answers
 pub mod Promise
-pub mod Steps
+pub mod Parts
+pub mod Samples

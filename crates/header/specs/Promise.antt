@@ -5,7 +5,7 @@ use mathlib.Core.Bool.{Bool}
 use mathlib.Core.List.{List}
 use lib.ListN.{length}
 use Rattle.laws.specs.Space.{pasted, leaves}
-use Rattle.header.specs.Header.{isIssue, isDuration, textOf}
+use Rattle.header.specs.Header.{isOrigin, isEvent, isSender, isWritten, isIssue, isDuration, textOf}
 use Rattle.header.specs.Reading.{readSays}
 use Rattle.header.specs.Writing.{writeSays}
 use Rattle.header.specs.Answers.{said, saidWrote, fieldsFor, alertIn}
@@ -27,3 +27,16 @@ pub record IsIssuePromise (day hour minute : ℕ) (r : Bool) : Type 0 where
 
 pub record IsDurationPromise (minutes : ℕ) (r : Bool) : Type 0 where
   pub says : r ≡ isDuration minutes
+
+-- what one field allows: its bytes, or hours and minutes as they are written
+pub record IsOriginPromise (b : List ℕ) (r : Bool) : Type 0 where
+  pub says : r ≡ isOrigin b
+
+pub record IsEventPromise (b : List ℕ) (r : Bool) : Type 0 where
+  pub says : r ≡ isEvent b
+
+pub record IsSenderPromise (b : List ℕ) (r : Bool) : Type 0 where
+  pub says : r ≡ isSender b
+
+pub record IsWrittenPromise (hours minutes : ℕ) (r : Bool) : Type 0 where
+  pub says : r ≡ isWritten (hours, minutes)

@@ -7,8 +7,8 @@ use native.Mathlib.Omega.{arith}
 use Rattle.laws.specs.Order.{Said, granted, refused, refusedAt}
 use Rattle.rules.specs.Form.{Form, FormLaws}
 use Rattle.rules.specs.Rules.{good, empty}
-use Rattle.rules.specs.Load.{items, addAll, loadSays}
-use Rattle.rules.specs.Afresh.{Afresh, Valid, built}
+use Rattle.rules.specs.Load.{Sub, items, addAll, loadSays}
+use Rattle.rules.specs.Afresh.{times, Afresh, Valid, built}
 use Rattle.rules.specs.History.{bookAfter}
 use Rattle.history.specs.Adding.{additions, AllGranted}
 use Rattle.history.specs.Statements.{LoadIsAdding, LoadIsBuilding}
@@ -79,3 +79,15 @@ module _ (f : Form) (l : FormLaws f) (w list : List ℕ) where
     grants = together-loads;
     granted-only = λ b e. let a = granted-afresh b e in (afresh-valid f l (items list) b a, a, is-built b a);
   }
+
+-- ---- in another order
+
+-- items that are granted in one order are granted in any, and leave the same book
+pub any-order : (f : Form) → FormLaws f → (a b : List Sub) (w : List ℕ) → ((x : Sub) → times x a ≡ times x b) → addAll f empty a ≡ granted w → addAll f empty b ≡ granted w
+unfolding bookAfter
+any-order f l a b w e g =
+    let k = only-granted f a empty w g in
+    let p : Afresh f a w = subst (λ (u : List ℕ). Afresh f a u) (sym (k .1)) (added-afresh f l a (k .0)) in
+    let q : Afresh f b w = record { keeps = p .keeps; exactly = λ x. p .exactly x ∙ e x } in
+    let n : AllGranted f empty (additions b) = together-granted f l b (afresh-valid f l b w q) in
+    all-granted f b empty n ∙ ap granted (one-book f l b b (bookAfter f (additions b)) w (λ x. refl) (added-afresh f l b n) q)

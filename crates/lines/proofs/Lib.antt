@@ -5,6 +5,7 @@ pub mod LineByLine
 pub mod Tags
 pub mod Forms
 pub mod Headers
+pub mod Fixed
 pub mod Cut
 pub mod Samples
 pub mod NoChoice

@@ -1,8 +1,8 @@
 -- Steps of the code.
 use Prim.Native.Nat.{ℕ, suc, _+_}
 use mathlib.Core.List.{List, [], _∷_}
-use mathlib.Core.Bool.{_&&_}
-use lib.ListN.{length, take, drop}
+use mathlib.Core.Bool.{Bool, _&&_}
+use lib.ListN.{length, getD, take, drop}
 use lib.Dec.{ltb, leb, eqb}
 use Rattle.laws.specs.Order.{Said, granted, refused, choose}
 use Rattle.laws.specs.Lists.{same}
@@ -24,6 +24,10 @@ lineOf text at =
     choose (ltb (toEnd (drop at text)) (length (drop at text)) && leb (toEnd (drop at text)) 300)
     (Ends (at + toEnd (drop at text)))
     Broken
+
+-- w bytes stand from index at on, and after them a byte 10
+unfoldable pub endsAfter : List ℕ → ℕ → ℕ → Bool
+endsAfter text at w = ltb (at + w) (length text) && eqb (getD text (at + w) 0) 10
 
 -- a word at index at of a line, and after it a number of w digits
 unfoldable pub taggedOf : List ℕ → ℕ → List ℕ → ℕ → Number

@@ -5,7 +5,7 @@ ghost use lib.ListN.{length, drop};
 ghost use Rattle.lines.specs.Forms.{nowLine, clientLine, subLine};
 ghost use Rattle.lines.specs.Answers.{saidNow, saidClient, saidSub};
 ghost use Rattle.lines.specs.Promise.{NowLinePromise, ClientLinePromise, HeaderLinePromise, SubLinePromise};
-ghost use Rattle.lines.specs.Steps.{toEnd, lineOf, taggedOf, formSays};
+ghost use Rattle.lines.specs.Steps.{toEnd, lineOf, endsAfter, taggedOf, formSays};
 use codec::Number;
 
 // What the next line says, and the index after its byte 10; a malformed line is 23.
@@ -77,6 +77,19 @@ fn line_at(input: &[u8], at: usize) -> Line
         return Line::Broken;
     }
     Line::Ends(e)
+}
+
+// Whether w bytes stand from index at on, and after them a byte 10.
+fn ends_after(input: &[u8], at: usize, w: usize) -> bool
+    ensures { λ r. ⌜ r ≡ endsAfter (now (input .entry)) at w ⌝ }
+{
+    if input.len() < at {
+        return false;
+    }
+    if input.len() - at <= w {
+        return false;
+    }
+    input[at + w] == 10
 }
 
 // A word at index at, and after it a number of w digits.
@@ -156,15 +169,17 @@ fn sub_of(line: &[u8], next: usize) -> SubLine
     }
 }
 
-// Each of these looks at the line's bytes once for its byte 10, and once for its form.
+// A line of fixed width has its byte 10 in one place, and none before it: its form allows none. So the first three look once at
+// each byte. Only a header's end is searched for.
 
 // The next line from index at on as `now=`: year, day, hour, minute.
 pub fn now_line(input: &[u8], at: usize) -> NowLine
     ensures { λ r. ⌜ NowLinePromise (now (input .entry)) at r ⌝ }
 {
-    let Line::Ends(e) = line_at(input, at) else {
+    if !ends_after(input, at, 17) {
         return NowLine::Malformed;
-    };
+    }
+    let e = at + 17;
     now_of(&input[at..e], e + 1)
 }
 
@@ -172,9 +187,10 @@ pub fn now_line(input: &[u8], at: usize) -> NowLine
 pub fn client_line(input: &[u8], at: usize) -> ClientLine
     ensures { λ r. ⌜ ClientLinePromise (now (input .entry)) at r ⌝ }
 {
-    let Line::Ends(e) = line_at(input, at) else {
+    if !ends_after(input, at, 11) {
         return ClientLine::Malformed;
-    };
+    }
+    let e = at + 11;
     client_of(&input[at..e], e + 1)
 }
 
@@ -182,9 +198,10 @@ pub fn client_line(input: &[u8], at: usize) -> ClientLine
 pub fn sub_line(input: &[u8], at: usize) -> SubLine
     ensures { λ r. ⌜ SubLinePromise (now (input .entry)) at r ⌝ }
 {
-    let Line::Ends(e) = line_at(input, at) else {
+    if !ends_after(input, at, 18) {
         return SubLine::Malformed;
-    };
+    }
+    let e = at + 18;
     sub_of(&input[at..e], e + 1)
 }
 

@@ -13,7 +13,7 @@ use Rattle.lines.specs.LineByLine.{eachLine}
 use Rattle.rules.specs.Form.{plain}
 use Rattle.rules.specs.Rules.{empty}
 use Rattle.rules.specs.Load.{items, addAll, loadSays}
-use Rattle.book.specs.Promise.{LoadPromise}
+use Rattle.loads.specs.Promise.{LoadPromise}
 use Rattle.book.specs.Answer.{said}
 use Rattle.book.specs.declared.Edited.{Edited}
 use Rattle.book.specs.declared.Edited.the-variants.{Done, Refused}

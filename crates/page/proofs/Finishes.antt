@@ -11,24 +11,15 @@ use Rattle.laws.proofs.Pasted.{pasted-length}
 use Rattle.clock.specs.declared.Clock.{Clock}
 use Rattle.report.specs.Hits.{pairs}
 use Rattle.report.specs.Report.{Full, reportSays}
-use Rattle.report.specs.Answers.{answerOf, verdictOf, summaryIn}
+use Rattle.report.specs.Answers.{verdictOf, summaryIn}
 use Rattle.report.specs.Promise.{writesHits}
 use Rattle.report.specs.declared.Summary.{Summary}
-use Rattle.report.specs.declared.Answer.{Answer}
 use Rattle.report.specs.declared.Verdict.the-variants.{Granted, Refused, RefusedAt}
 use Rattle.report.proofs.Spans.{length-pairs}
 use Rattle.report.proofs.Given.{given, count-given}
 use Rattle.printing.specs.Page.{pageText, refusedText}
 use Rattle.page.specs.Input.{hitRoom, reportShows}
 use Rattle.page.specs.Page.{printed}
-
-pub answer-verdict : (s : Said Full) (r : Answer) → r ≡ answerOf s → r .verdict ≡ verdictOf s
-unfolding answerOf
-answer-verdict s r e = ap (λ (x : Answer). x .verdict) e
-
-pub answer-summary : (s : Said Full) (r : Answer) → r ≡ answerOf s → r .summary ≡ summaryIn s
-unfolding answerOf
-answer-summary s r e = ap (λ (x : Answer). x .summary) e
 
 -- what was pasted to the front
 cut : (s : List ℕ) (n : ℕ) → length s ≡ n → take n (pasted (replicate 8192 0) 0 s) ≡ s

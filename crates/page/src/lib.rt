@@ -112,7 +112,7 @@ fn add_subs(input: &[u8], at: usize, book: &mut [u32]) -> Edited
     let mut words = [0u32; 12291];
     let gathered = gather(input, at, &mut words);
     let n = 3 * gathered.count;
-    let edited = book::load(book, &words[..n]);
+    let edited = loads::load(book, &words[..n]);
     let Edited::Done = edited else {
         return edited;
     };

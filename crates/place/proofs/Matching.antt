@@ -7,17 +7,8 @@ use mathlib.Core.List.{List, [], _∷_}
 use borrow.Author.Tests.{eqb-true, eq-eqb}
 use lib.Dec.{eqb}
 use Rattle.laws.proofs.Tests.{and-l, and-r, and-i}
+use Rattle.place.specs.Meaning.{Meet, Match}
 use Rattle.place.specs.Place.{part, state, county, meet, matches, matchesSome}
-
--- equal, or either is 0
-abbrev pub Meet : ℕ → ℕ → Type 0
-Meet a b = (a ≡ b) ⊎ ((a ≡ 0) ⊎ (b ≡ 0))
-
--- SS is equal, CCC is equal or either is 000, and P is equal or either is 0
-pub record Match (watched sent : ℕ) : Type 0 where
-  pub states : state watched ≡ state sent
-  pub counties : Meet (county watched) (county sent)
-  pub parts : Meet (part watched) (part sent)
 
 or-cases : {P Q : Type 0} (a b : Bool) → (a ≡ true → P) → (b ≡ true → Q) → a || b ≡ true → P ⊎ Q
 or-cases true b f g e = inl (f refl)

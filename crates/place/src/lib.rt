@@ -1,7 +1,8 @@
-// Places: which match, and how a book keeps one.
+// Places: which match, how a book keeps one, and how many are matched fast.
 ghost use mathlib.Core.Path.{_≡_};
 ghost use Rattle.place.specs.Place.{meet};
-ghost use Rattle.place.specs.Promise.{MatchesPromise, MatchesSomePromise, FirstWordPromise, PlaceOfPromise, BadPlacePromise};
+ghost use Rattle.place.specs.Packed.{packedMatch};
+ghost use Rattle.place.specs.Promise.{MatchesPromise, MatchesSomePromise, FirstWordPromise, PlaceOfPromise, BadPlacePromise, PackPromise, PackPlacesPromise, PackedMatchSomePromise};
 
 // Whether two counties, or two parts, are equal or either is 0.
 fn meets(a: u32, b: u32) -> bool
@@ -65,4 +66,51 @@ pub fn bad_place(place: u32) -> bool
         return true;
     }
     place / 1000 % 100 == 0
+}
+
+// ---- packed places, for those who match many: no division in the loop
+
+// A first word with its parts in bits of their own.
+pub fn pack(word: u32) -> u32
+    ensures { λ r. ⌜ PackPromise word r ⌝ }
+{
+    word / 10000 % 100 * 16384 + word / 10 % 1000 * 16 + word % 10
+}
+
+// Packs each of some places where it stands.
+pub fn pack_places(places: &mut [u32])
+    ensures { λ _. ⌜ PackPlacesPromise (now (places .entry)) (now (places .exit)) ⌝ }
+{
+    let mut k: usize = 0;
+    while k < places.len() {
+        places[k] = pack(first_word(places[k]));
+        k += 1;
+    }
+}
+
+// Whether two packed places match.
+fn packed_match(watched: u32, sent: u32) -> bool
+    ensures { λ r. ⌜ r ≡ packedMatch watched sent ⌝ }
+{
+    if watched / 16384 != sent / 16384 {
+        return false;
+    }
+    if !meets(watched / 16 % 1024, sent / 16 % 1024) {
+        return false;
+    }
+    meets(watched % 16, sent % 16)
+}
+
+// Whether a packed place matches at least one of some packed places. One look at each, up to the first that matches.
+pub fn packed_match_some(watched: u32, sent: &[u32]) -> bool
+    ensures { λ r. ⌜ PackedMatchSomePromise watched (now (sent .entry)) r ⌝ }
+{
+    let mut at: usize = 0;
+    while at < sent.len() {
+        if packed_match(watched, sent[at]) {
+            return true;
+        }
+        at += 1;
+    }
+    false
 }

@@ -1,5 +1,5 @@
 -- A page and a refusal's line as texts: their parts, and how long they are. Assumes nothing.
-use Prim.Native.Nat.{ℕ, _+_, _-_, _*_, _/_, _≤_, _<_}
+use Prim.Native.Nat.{ℕ, _+_, _*_, _/_, _≤_, _<_}
 use mathlib.Core.Path.{_≡_, refl, sym, ap, _∙_}
 use mathlib.Core.Logic.{_⊎_, inl, inr}
 use mathlib.Core.List.{List, [], _∷_, _++_}
@@ -16,7 +16,7 @@ use Rattle.clock.specs.declared.State.{State}
 use Rattle.clock.specs.declared.State.the-variants.{Early, Live, Expired}
 use Rattle.clock.specs.declared.Times.{Times}
 use Rattle.printing.specs.Page.{line, yesNo, stateWord, ended, hitLines, pageLines, pageText, refusedText, pageRoom}
-use Rattle.printing.specs.Steps.{headLines, whatLines, hitsLine}
+use Rattle.printing.specs.Steps.{headLines, whatLines, hitsLine, pageLength}
 use Rattle.printing.proofs.Writing.{ended-append, length-line, length-lines}
 use Rattle.printing.proofs.Hits.{hits-count, hits-length}
 
@@ -79,9 +79,9 @@ module _ (client : ℕ) (times : Times) (event : List ℕ) (listed : Bool) (clas
       )
 
   -- whether it fits, as the code asks it
-  module _ (l k w room : ℕ) (el : l ≡ length (yesNo listed)) (ek : k ≡ length (stateWord (times .state))) (ew : w ≡ size (length hits / 2)) where
+  module _ (w room : ℕ) (ew : w ≡ size (length hits / 2)) where
     abbrev need : ℕ
-    need = 85 + l + k + w + length event + 14 * (length hits / 2)
+    need = pageLength listed (times .state) w (length event) (length hits / 2)
 
     pub page-short : (b : Bool) → b ≡ leb need room → b ≡ false → room < length (pageText client times event listed class hits)
     page-short b e h = omega (arith, leb-false need room (sym e ∙ h), page-length)
@@ -109,10 +109,10 @@ page-fits client times event listed class hits h e =
 pub refusal-fits : (number : ℕ) → number ≤ 9999 → length (refusedText number) ≤ pageRoom
 refusal-fits number h = omega (arith, refused-length number, size-small number h)
 
--- room for some bytes, an event and n lines of 14 bytes, by differences
-pub room-by : (room some event n : ℕ) → some + event ≤ room → leb n ((room - some - event) / 14) ≡ leb (some + event + 14 * n) room
-room-by room some event n h = by (le-or-lt ((room - some - event) / 14) n)
+-- room for some bytes and n lines of 14 bytes, by what the others leave
+pub room-by : (room some left n : ℕ) → some + left ≡ room → leb n (left / 14) ≡ leb (some + 14 * n) room
+room-by room some left n h = by (le-or-lt (left / 14) n)
   where
-    by : ((room - some - event) / 14 < n) ⊎ (n ≤ (room - some - event) / 14) → leb n ((room - some - event) / 14) ≡ leb (some + event + 14 * n) room
-    by (inl k) = lt-leb n ((room - some - event) / 14) k ∙ sym (lt-leb (some + event + 14 * n) room (omega arith))
-    by (inr k) = le-leb n ((room - some - event) / 14) k ∙ sym (le-leb (some + event + 14 * n) room (omega arith))
+    by : (left / 14 < n) ⊎ (n ≤ left / 14) → leb n (left / 14) ≡ leb (some + 14 * n) room
+    by (inl k) = lt-leb n (left / 14) k ∙ sym (lt-leb (some + 14 * n) room (omega arith))
+    by (inr k) = le-leb n (left / 14) k ∙ sym (le-leb (some + 14 * n) room (omega arith))

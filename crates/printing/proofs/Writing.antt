@@ -1,5 +1,6 @@
 -- Writing one part after the other, and lines. Assumes nothing.
 use Prim.Native.Nat.{ℕ, _+_, _≤_, _<_}
+use Prim.Native.String.{String}
 use mathlib.Core.Path.{_≡_, refl, sym, ap, _∙_}
 use mathlib.Core.Bool.{true, false}
 use mathlib.Core.List.{List, [], _∷_, _++_, append-assoc}
@@ -9,9 +10,13 @@ use lib.Dec.{ltb}
 use borrow.Author.Tests.{lt-ltb, le-ltb}
 use Rattle.laws.specs.Order.{granted}
 use Rattle.laws.specs.Space.{pasted}
-use Rattle.codec.specs.Promise.{PutPromise}
-use Rattle.codec.proofs.Puts.{put-fits, puts-nil, puts-length, puts-two, puts-as}
-use Rattle.printing.specs.Page.{ended}
+use Rattle.laws.specs.Text.{ascii}
+use Rattle.codec.proofs.Puts.{puts-length, puts-two, puts-as}
+use Rattle.clock.specs.declared.Stamp.{Stamp}
+use Rattle.page_lines.specs.Parts.{joined, lineEnd, textParts, stampParts}
+use Rattle.page_lines.specs.Promise.{PartsPromise}
+use Rattle.page_lines.proofs.Each.{parts-fit}
+use Rattle.printing.specs.Page.{line, stampText, ended}
 use Rattle.printing.specs.Promise.{printSays, saidPrinted, PrintPromise}
 use Rattle.printing.specs.Steps.{Writes}
 use Rattle.printing.specs.declared.Printed.{Printed}
@@ -19,11 +24,9 @@ use Rattle.printing.specs.declared.Printed.the-variants.{Bytes, Refused}
 
 -- ---- parts
 
-pub writes : {d : List ℕ} {at : ℕ} {s d′ : List ℕ} {r : ℕ} → PutPromise d at s d′ r → Writes d at s d′ r
-writes p = record { puts = put-fits p }
-
-pub writes-nil : (d : List ℕ) (at : ℕ) → Writes d at [] d at
-writes-nil d at = record { puts = λ h. puts-nil d at }
+-- the parts that a call put
+pub writes : {d : List ℕ} {at : ℕ} {parts : List (List ℕ)} {d′ : List ℕ} {r : ℕ} → PartsPromise d at parts d′ r → Writes d at (joined parts) d′ r
+writes p = record { puts = parts-fit p }
 
 pub writes-as : {d : List ℕ} {at : ℕ} {s z d′ : List ℕ} {r : ℕ} → Writes d at s d′ r → s ≡ z → Writes d at z d′ r
 writes-as {d} {at} w e = record { puts = λ h. puts-as (w .puts (rw (← e) at h)) e }
@@ -40,10 +43,6 @@ writes-two {d} {d1} {d2} {at} {e} {r} {x} {y} v w = record {
 
 -- ---- lines
 
-pub ended-one : (l : List ℕ) → l ++ (10 ∷ []) ≡ ended (l ∷ [])
-unfolding ended
-ended-one l = refl
-
 pub ended-more : (l : List ℕ) (ls : List (List ℕ)) → ended (l ∷ []) ++ ended ls ≡ ended (l ∷ ls)
 unfolding ended
 ended-more l ls = append-assoc l (10 ∷ []) (ended ls)
@@ -53,15 +52,6 @@ unfolding ended
 ended-append [] ls = refl
 ended-append (k ∷ ks) ls = append-assoc k (10 ∷ ended ks) (ended ls) ∙ ap (λ (r : List ℕ). k ++ (10 ∷ r)) (ended-append ks ls)
 
--- a line in two parts
-pub ended-two : (x y : List ℕ) → x ++ ended (y ∷ []) ≡ ended ((x ++ y) ∷ [])
-unfolding ended
-ended-two x y = sym (append-assoc x y (10 ∷ []))
-
-pub line-parts : (w a b x y : List ℕ) → ((w ++ a) ++ b) ++ (x ++ ended (y ∷ [])) ≡ ended ((w ++ (a ++ (b ++ (x ++ y)))) ∷ [])
-unfolding ended
-line-parts w a b x y = simp append-assoc
-
 pub length-line : (l : List ℕ) → length (ended (l ∷ [])) ≡ length l + 1
 unfolding ended
 length-line l = length-append l (10 ∷ [])
@@ -70,9 +60,15 @@ pub length-lines : (l : List ℕ) (ls : List (List ℕ)) → length (ended (l �
 unfolding ended
 length-lines l ls = length-append l (10 ∷ ended ls) ∙ omega arith
 
--- a line's parts, from the left
-pub line-two : {d d1 d2 : List ℕ} {at e r : ℕ} {l : List ℕ} → Writes d at l d1 e → PutPromise d1 e (10 ∷ []) d2 r → Writes d at (ended (l ∷ [])) d2 r
-line-two {l = l} v w = writes-as (writes-two v (writes w)) (ended-one l)
+-- a line of a word and what it says, of a word and a date, and the lines of hits
+
+pub line-put : (word : String) {says d : List ℕ} {at : ℕ} {d′ : List ℕ} {r : ℕ} → PartsPromise d at (textParts (ascii word) says) d′ r → Writes d at (ended (line word says ∷ [])) d′ r
+unfolding joined ended
+line-put word {says} p = writes-as (writes p) (sym (append-assoc (ascii word) says lineEnd))
+
+pub stamp-put : (word : String) (s : Stamp) {d : List ℕ} {at : ℕ} {d′ : List ℕ} {r : ℕ} → PartsPromise d at (stampParts (ascii word) s) d′ r → Writes d at (ended (line word (stampText s) ∷ [])) d′ r
+unfolding joined ended
+stamp-put word s p = writes-as (writes p) (sym (append-assoc (ascii word) (stampText s) lineEnd))
 
 pub lines-two : (l : List ℕ) (ls : List (List ℕ)) {d d1 d2 : List ℕ} {at e r : ℕ} → Writes d at (ended (l ∷ [])) d1 e → Writes d1 e (ended ls) d2 r → Writes d at (ended (l ∷ ls)) d2 r
 lines-two l ls v w = writes-as (writes-two v w) (ended-more l ls)

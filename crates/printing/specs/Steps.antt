@@ -1,5 +1,5 @@
 -- Steps of the code: parts of the page, and writing them where there is room.
-use Prim.Native.Nat.{ℕ, _+_, _/_, _≤_}
+use Prim.Native.Nat.{ℕ, _+_, _*_, _/_, _≤_}
 use mathlib.Core.List.{List, [], _∷_}
 use mathlib.Core.Bool.{Bool}
 use lib.ListN.{length}
@@ -32,3 +32,7 @@ whatLines event listed class state =
 -- the number of hits, in w digits
 abbrev pub hitsLine : ℕ → List ℕ → List ℕ
 hitsLine w hits = line "hits=" (dig w (length hits / 2))
+
+-- how many bytes a page has whose number of hits has w digits, whose event has so many bytes, and which lists n hits
+abbrev pub pageLength : Bool → State → ℕ → ℕ → ℕ → ℕ
+pageLength listed state w event n = 85 + length (yesNo listed) + length (stateWord state) + w + event + 14 * n

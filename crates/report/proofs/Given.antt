@@ -20,6 +20,8 @@ use Rattle.rules.specs.Load.{Sub}
 use Rattle.rules.specs.Afresh.{subs}
 use Rattle.report.specs.Hits.{hitsOf}
 use Rattle.report.specs.Report.{Full, summaryOf, alertSays, listSays, reportSays}
+use Rattle.report.specs.Answers.{answerOf, verdictOf, summaryIn}
+use Rattle.report.specs.declared.Answer.{Answer}
 
 -- a row that was passed
 past : {A : Type 0} (b : Bool) (n : ℕ) (rest : Said A) (g : A) → choose b (refused n) rest ≡ granted g → (b ≡ false) × (rest ≡ granted g)
@@ -62,3 +64,13 @@ given book client text at room g e =
 pub count-given : (book : List ℕ) (client : ℕ) (text : List ℕ) (at : Clock) (room : ℕ) (g : Full) → Given book client text at room g → g .summary .hits ≡ length (g .hits)
 unfolding summaryOf
 count-given book client text at room g k = ap (λ (s : Rattle.report.specs.declared.Summary.Summary). s .hits) (k .summary)
+
+-- ---- the parts of an answer, for those who call
+
+pub answer-verdict : (s : Said Full) (r : Answer) → r ≡ answerOf s → r .verdict ≡ verdictOf s
+unfolding answerOf
+answer-verdict s r e = ap (λ (x : Answer). x .verdict) e
+
+pub answer-summary : (s : Said Full) (r : Answer) → r ≡ answerOf s → r .summary ≡ summaryIn s
+unfolding answerOf
+answer-summary s r e = ap (λ (x : Answer). x .summary) e

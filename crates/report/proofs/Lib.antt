@@ -1,4 +1,5 @@
 pub mod Spans
+pub mod Found
 pub mod Stages
 pub mod Kept
 pub mod Exact

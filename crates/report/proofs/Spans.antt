@@ -11,15 +11,15 @@ use lib.ListN.{length, length-append, length-map}
 use Rattle.laws.specs.Order.{choose}
 use Rattle.laws.specs.Lists.{table, tally, one, keep}
 use Rattle.laws.specs.Space.{pasted}
-use Rattle.laws.proofs.Tally.{tally-append, tally-more, length-keep, keep-append}
-use Rattle.laws.proofs.Tables.{table-ext}
+use Rattle.laws.proofs.Tally.{tally-append, tally-le, tally-more, length-keep, keep-append}
+use Rattle.laws.proofs.Tables.{table-ext, length-table}
 use Rattle.laws.proofs.Pasted.{pasted-two, pasted-nil}
 use Rattle.rules.specs.Form.{plain}
 use Rattle.rules.specs.Rules.{Rec, recAt, recs, total}
 use Rattle.rules.specs.Load.{Sub}
-use Rattle.rules.specs.Afresh.{subOf, subs}
-use Rattle.report.specs.Hits.{isHit, pairs}
-use Rattle.report.specs.Steps.{hitRec, pair, span, hitWords, Wrote}
+use Rattle.rules.specs.Afresh.{subOf}
+use Rattle.report.specs.Hits.{pairs}
+use Rattle.report.specs.Steps.{hitSubs, pair, span, hitWords, Wrote}
 
 -- ---- pairs of words
 
@@ -67,99 +67,90 @@ pub span-up : (f : Rec → Bool) (w : List ℕ) (from n i : ℕ) → i ≤ n →
 unfolding span
 span-up f w from n i l = tally-up f (λ k. recAt w (from + k)) n i l
 
+-- and none is higher than the records are many
+pub span-few : (f : Rec → Bool) (w : List ℕ) (from n : ℕ) → tally f (span w from n) ≤ n
+unfolding span
+span-few f w from n = omega (arith, tally-le f (table n (λ i. recAt w (from + i))), length-table n (λ i. recAt w (from + i)))
+
 -- ---- the words of the hits
 
-module _ (client class : ℕ) (places : List ℕ) where
-  pub words-append : (s t : List Rec) → hitWords client class places (s ++ t) ≡ hitWords client class places s ++ hitWords client class places t
+module _ (k : Rec → Bool) where
+  pub words-append : (s t : List Rec) → hitWords k (s ++ t) ≡ hitWords k s ++ hitWords k t
   unfolding hitWords
   words-append s t =
-      let k : Rec → Bool = hitRec client class places in
       ap (λ (l : List Rec). pairs (map (subOf plain) l)) (keep-append k s t)
       ∙ ap pairs (map-append (subOf plain) (keep k s) (keep k t))
       ∙ pairs-append (map (subOf plain) (keep k s)) (map (subOf plain) (keep k t))
 
-  pub words-length : (s : List Rec) → length (hitWords client class places s) ≡ 2 * tally (hitRec client class places) s
+  pub words-length : (s : List Rec) → length (hitWords k s) ≡ 2 * tally k s
   unfolding hitWords
   words-length s =
-      let k : Rec → Bool = hitRec client class places in
       length-pairs (map (subOf plain) (keep k s)) ∙ ap (λ (n : ℕ). 2 * n) (length-map (keep k s) (subOf plain) ∙ length-keep k s)
 
-  pub words-yes : (r : Rec) → hitRec client class places r ≡ true → hitWords client class places (r ∷ []) ≡ pair r
+  pub words-yes : (r : Rec) → k r ≡ true → hitWords k (r ∷ []) ≡ pair r
   unfolding hitWords keep
   words-yes r e = rw e
 
-  pub words-no : (r : Rec) → hitRec client class places r ≡ false → hitWords client class places (r ∷ []) ≡ []
+  pub words-no : (r : Rec) → k r ≡ false → hitWords k (r ∷ []) ≡ []
   unfolding hitWords keep pairs
   words-no r e = rw e
 
   -- the words of a book's hits
-  keep-map : (s : List Rec) → map (subOf plain) (keep (hitRec client class places) s) ≡ keep (isHit client class places) (map (subOf plain) s)
-  unfolding keep
-  keep-map [] = refl
-  keep-map (r ∷ s) = by (isHit client class places (subOf plain r)) (keep-map s)
-    where
-      by : (b : Bool) → map (subOf plain) (keep (hitRec client class places) s) ≡ keep (isHit client class places) (map (subOf plain) s)
-          → map (subOf plain) (choose b (r ∷ keep (hitRec client class places) s) (keep (hitRec client class places) s))
-          ≡ choose b (subOf plain r ∷ keep (isHit client class places) (map (subOf plain) s)) (keep (isHit client class places) (map (subOf plain) s))
-      by true k = rw k
-      by false k = k
-
   whole : (w : List ℕ) → span w 0 (total w - 0) ≡ recs w
   unfolding span recs
   whole w =
       let e : total w - 0 ≡ total w = omega arith in
       rw e (table-ext (total w) (λ i. recAt w (0 + i)) (recAt w) (λ i l. ap (recAt w) (zero-add i)))
 
-  pub book-words : (w : List ℕ) → hitWords client class places (span w 0 (total w - 0)) ≡ pairs (keep (isHit client class places) (subs plain w))
-  unfolding hitWords subs
-  book-words w = ap pairs (keep-map (span w 0 (total w - 0)) ∙ ap (λ (s : List Rec). keep (isHit client class places) (map (subOf plain) s)) (whole w))
+  pub book-words : (w : List ℕ) → hitWords k (span w 0 (total w - 0)) ≡ pairs (hitSubs k w)
+  unfolding hitWords hitSubs
+  book-words w = ap (λ (s : List Rec). pairs (map (subOf plain) (keep k s))) (whole w)
 
-  pub book-count : (w : List ℕ) → tally (hitRec client class places) (span w 0 (total w - 0)) ≡ length (keep (isHit client class places) (subs plain w))
+  pub book-count : (w : List ℕ) → tally k (span w 0 (total w - 0)) ≡ length (hitSubs k w)
   book-count w =
-      let e : 2 * tally (hitRec client class places) (span w 0 (total w - 0)) ≡ 2 * length (keep (isHit client class places) (subs plain w)) =
-      sym (words-length (span w 0 (total w - 0))) ∙ ap length (book-words w) ∙ length-pairs (keep (isHit client class places) (subs plain w)) in
+      let e : 2 * tally k (span w 0 (total w - 0)) ≡ 2 * length (hitSubs k w) =
+      sym (words-length (span w 0 (total w - 0))) ∙ ap length (book-words w) ∙ length-pairs (hitSubs k w) in
       omega arith
 
   -- ---- the loop that writes
 
-  module _ (w : List ℕ) (from i to at : ℕ) (d : List ℕ) (low : from ≤ i) (high : i < to) (room : at + 2 * tally (hitRec client class places) (span w from (to - from)) ≤ length d) where
+  module _ (w : List ℕ) (from i to at : ℕ) (d : List ℕ) (low : from ≤ i) (high : i < to) (room : at + 2 * tally k (span w from (to - from)) ≤ length d) where
     abbrev sofar : List ℕ
-    sofar = hitWords client class places (span w from (i - from))
+    sofar = hitWords k (span w from (i - from))
 
     abbrev onemore : List ℕ
-    onemore = hitWords client class places (span w from (i + 1 - from))
+    onemore = hitWords k (span w from (i + 1 - from))
 
-    more : onemore ≡ sofar ++ hitWords client class places (recAt w i ∷ [])
-    more = ap (hitWords client class places) (span-more w from i low) ∙ words-append (span w from (i - from)) (recAt w i ∷ [])
+    more : onemore ≡ sofar ++ hitWords k (recAt w i ∷ [])
+    more = ap (hitWords k) (span-more w from i low) ∙ words-append (span w from (i - from)) (recAt w i ∷ [])
 
-    pub fits : hitRec client class places (recAt w i) ≡ true → at + length sofar + 2 ≤ length d
-    fits h =
-        let k : Rec → Bool = hitRec client class places in
+    here : length (hitWords k (recAt w i ∷ [])) ≡ 2 * one (k (recAt w i))
+    unfolding tally
+    here = words-length (recAt w i ∷ []) ∙ omega arith
+
+    pub fits : at + length sofar + 2 * one (k (recAt w i)) ≤ length d
+    fits =
         let l = words-length (span w from (i - from)) in
         let u = span-up k w from (to - from) (i + 1 - from) (omega arith) in
         let t = tally-span w from i low k in
-        let o : one (k (recAt w i)) ≡ 1 = ap one h in
         omega (arith, room)
 
-    two : hitRec client class places (recAt w i) ≡ true → at + length sofar + length (pair (recAt w i)) ≤ length d
-    unfolding pairs
-    two h = fits h
-
-    pub turn-yes : (d1 d2 : List ℕ) (e e2 : ℕ) → hitRec client class places (recAt w i) ≡ true → Wrote d at sofar d1 e → Wrote d1 e (pair (recAt w i)) d2 e2 → Wrote d at onemore d2 e2
-    turn-yes d1 d2 e e2 h a b =
-        let m : onemore ≡ sofar ++ pair (recAt w i) = more ∙ ap (λ (l : List ℕ). sofar ++ l) (words-yes (recAt w i) h) in
-        let p : pasted (pasted d at sofar) (at + length sofar) (pair (recAt w i)) ≡ pasted d at (sofar ++ pair (recAt w i)) = pasted-two d at sofar (pair (recAt w i)) (two h) in
+    pub turn : (d1 d2 : List ℕ) (e e2 : ℕ) → Wrote d at sofar d1 e → Wrote d1 e (hitWords k (recAt w i ∷ [])) d2 e2 → Wrote d at onemore d2 e2
+    turn d1 d2 e e2 a b =
+        let n : List ℕ = hitWords k (recAt w i ∷ []) in
+        let f : at + length sofar + length n ≤ length d = rw here fits in
+        let p : pasted (pasted d at sofar) (at + length sofar) n ≡ pasted d at (sofar ++ n) = pasted-two d at sofar n f in
         record {
-          space = b .space ∙ (λ q. pasted (a .space q) (a .next q) (pair (recAt w i))) ∙ p ∙ ap (pasted d at) (sym m);
-          next = b .next ∙ ap (λ (n : ℕ). n + length (pair (recAt w i))) (a .next) ∙ sym (ap (λ (l : List ℕ). at + length l) m ∙ ap (λ (n : ℕ). at + n) (length-append sofar (pair (recAt w i))) ∙ omega arith);
+          space = b .space ∙ (λ q. pasted (a .space q) (a .next q) n) ∙ p ∙ ap (pasted d at) (sym more);
+          next = b .next ∙ ap (λ (m : ℕ). m + length n) (a .next) ∙ sym (ap (λ (l : List ℕ). at + length l) more ∙ ap (λ (m : ℕ). at + m) (length-append sofar n) ∙ omega arith);
         }
 
-    pub turn-no : (d1 : List ℕ) (e : ℕ) → hitRec client class places (recAt w i) ≡ false → Wrote d at sofar d1 e → Wrote d at onemore d1 e
+    pub turn-no : (d1 : List ℕ) (e : ℕ) → k (recAt w i) ≡ false → Wrote d at sofar d1 e → Wrote d at onemore d1 e
     turn-no d1 e h a =
         let m : onemore ≡ sofar = more ∙ ap (λ (l : List ℕ). sofar ++ l) (words-no (recAt w i) h) ∙ append-nil sofar in
         record { space = a .space ∙ ap (pasted d at) (sym m); next = a .next ∙ ap (λ (l : List ℕ). at + length l) (sym m) }
 
-  pub begun : (w : List ℕ) (from at : ℕ) (d : List ℕ) → Wrote d at (hitWords client class places (span w from (from - from))) d at
+  pub begun : (w : List ℕ) (from at : ℕ) (d : List ℕ) → Wrote d at (hitWords k (span w from (from - from))) d at
   unfolding hitWords keep pairs
   begun w from at d =
       rw (span-none w from)

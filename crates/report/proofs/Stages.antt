@@ -1,14 +1,14 @@
 -- The stages of a report over plain values: what each refusal and each going on says of the whole. Assumes nothing.
 use mathlib.Core.Path.{_≡_, refl, sym, ap, _∙_}
 use mathlib.Core.Bool.{Bool, true, false, not}
-use mathlib.Core.List.{List, [], _∷_}
+use mathlib.Core.List.{List, [], _∷_, _++_, map}
 use Prim.Native.Nat.{ℕ, _+_, _*_, _-_, _≤_}
 use native.Mathlib.Omega.{arith}
 use lib.Dec.{ltb}
-use lib.ListN.{length, take, replicate, length-append, length-replicate}
-use lib.Seq.{take-append-le}
+use lib.ListN.{length, take, drop, replicate, length-append, length-map, length-replicate}
+use lib.Seq.{take-append-le, take-at, length-take-le}
 use Rattle.laws.specs.Order.{Said, granted, refused, refusedAt, _when_, inOrder, next, choose}
-use Rattle.laws.specs.Lists.{keep}
+use Rattle.laws.specs.Lists.{every, keep}
 use Rattle.laws.specs.Space.{leaves}
 use Rattle.header.specs.Header.{Alert}
 use Rattle.header.specs.Reading.{readSays}
@@ -20,6 +20,8 @@ use Rattle.header.specs.declared.Verdict.{Verdict}
 use Rattle.header.specs.declared.Verdict.the-variants.{Granted as Reads, RefusedAt as Stops}
 use Rattle.event.specs.Events.{isListed}
 use Rattle.event.specs.Class.{classOf}
+use Rattle.event.specs.declared.Kind.{Kind}
+use Rattle.place.specs.Packed.{packedPlace}
 use Rattle.clock.specs.Clock.{hasDay, isClock}
 use Rattle.clock.specs.Lifetime.{yearOf}
 use Rattle.clock.specs.Answers.{timesSays}
@@ -34,11 +36,12 @@ use Rattle.report.specs.Hits.{isHit, hitsOf}
 use Rattle.report.specs.Report.{Full, summaryOf, alertSays, listSays, reportSays}
 use Rattle.report.specs.Answers.{answerOf}
 use Rattle.report.specs.Promise.{writesHits, ReportPromise}
-use Rattle.report.specs.Steps.{ListsHits, timedSays, TimedReport, Readable, AlertReport}
+use Rattle.report.specs.Steps.{found, hitSubs, ListsHits, kindOf, timedSays, TimedReport, Readable, AlertReport}
 use Rattle.report.specs.declared.Answer.{Answer}
 use Rattle.report.specs.declared.Listed.{Listed}
 use Rattle.report.specs.declared.Listed.the-variants.{All, Short}
 use Rattle.report.specs.declared.Verdict.the-variants.{Granted}
+use Rattle.report.proofs.Found.{hits-found}
 use Rattle.header.proofs.Callers.{Allowed, allowed}
 use Rattle.header.proofs.Round.{read-form}
 
@@ -156,11 +159,23 @@ module _ (text : List ℕ) (r : Read) (p : ReadPromise text r) where
       let n : f .count ≡ length (a .places) = ap (λ (x : Fields). x .count) q in
       let l : length (f .places) ≡ length (a .places) + (31 - length (a .places)) =
       ap (λ (x : Fields). length (x .places)) q ∙ length-append (a .places) (replicate (31 - length (a .places)) 0) ∙ ap (λ (m : ℕ). length (a .places) + m) (length-replicate {A = ℕ} (31 - length (a .places)) 0) in
-      record { few = omega (arith, k .most); issue = k .issue; lasts = k .minutes }
+      record { places = record { few = omega (arith, k .most); codes = k .codes }; issue = k .issue; lasts = k .minutes }
 
--- the hits of an alert, by the class and the places that the code hands on
-pub hits-are : (client : ℕ) (f : Fields) (s : List Sub) → f .count ≤ length (f .places)
-    → keep (isHit client (classOf (f .event)) (take (f .count) (f .places))) s ≡ hitsOf client (alertIn f) s
-unfolding hitsOf
-hits-are client f s h =
-    ap (λ (ps : List ℕ). keep (isHit client (classOf (f .event)) ps) s) (sym (take-append-le (f .count) (f .places) (replicate (f .count) 0) h))
+-- the places that the code hands on, packed in front of what else stands in the array; and the hits by them
+module _ (f : Fields) (h : f .count ≤ length (f .places)) (last : List ℕ) (packs : last ≡ map packedPlace (take (f .count) (f .places))) where
+  pub packed-long : length last ≡ f .count
+  packed-long = ap length packs ∙ length-map (take (f .count) (f .places)) packedPlace ∙ length-take-le (f .count) (f .places) h
+
+  pub packed-front : take (f .count) (last ++ drop (f .count) (f .places)) ≡ last
+  packed-front = take-at last (drop (f .count) (f .places)) (f .count) packed-long
+
+  sent-are : last ≡ map packedPlace (alertIn f .places)
+  sent-are = packs ∙ ap (map packedPlace) (sym (take-append-le (f .count) (f .places) (replicate (f .count) 0) h))
+
+  pub hits-are : (client : ℕ) (k : Kind) (book : List ℕ) → good plain book ≡ true → every (λ p. ltb p 1000000) (alertIn f .places) ≡ true → k ≡ kindOf (f .event)
+      → hitSubs (found (record { client = client; class = k .class }) (take (f .count) (last ++ drop (f .count) (f .places)))) book ≡ hitsOf client (alertIn f) (subs plain book)
+  unfolding hitsOf
+  hits-are client k book g codes e =
+      ap (λ (s : List ℕ). hitSubs (found (record { client = client; class = k .class }) s) book) (packed-front ∙ sent-are)
+      ∙ hits-found (record { client = client; class = k .class }) (alertIn f .places) codes book g
+      ∙ ap (λ (y : Kind). keep (isHit client (y .class) (alertIn f .places)) (subs plain book)) e

@@ -1,14 +1,15 @@
 -- What the private functions of a report do.
 use Prim.Native.Nat.{ℕ, _+_, _*_, _≤_}
-use mathlib.Core.Bool.{Bool, true}
+use mathlib.Core.Bool.{Bool, true, _&&_}
 use mathlib.Core.List.{List, [], _∷_, map}
 use mathlib.Core.Path.{_≡_}
 use lib.ListN.{length}
-use lib.Dec.{ltb}
+use lib.Dec.{ltb, eqb}
 use Rattle.laws.specs.Order.{Said, granted, refused, refusedAt, choose, inOrder}
-use Rattle.laws.specs.Lists.{table, keep}
+use Rattle.laws.specs.Lists.{every, table, keep}
 use Rattle.laws.specs.Space.{pasted, leaves}
 use Rattle.header.specs.Header.{Alert}
+use Rattle.header.specs.Answers.{alertIn}
 use Rattle.header.specs.declared.Fields.{Fields}
 use Rattle.header.specs.declared.Verdict.{Verdict}
 use Rattle.header.specs.declared.Verdict.the-variants.{Granted as Read, RefusedAt}
@@ -21,21 +22,34 @@ use Rattle.event.specs.Events.{isListed}
 use Rattle.event.specs.Class.{classOf}
 use Rattle.event.specs.declared.Kind.{Kind}
 use Rattle.rules.specs.Form.{plain}
-use Rattle.rules.specs.Rules.{Rec, recAt}
+use Rattle.place.specs.Packed.{packed, packedMatchSome}
+use Rattle.rules.specs.Rules.{Rec, recAt, recs}
 use Rattle.rules.specs.Load.{Sub}
 use Rattle.rules.specs.Afresh.{subOf}
-use Rattle.report.specs.Hits.{isHit, pairs}
+use Rattle.report.specs.Hits.{hasClass, pairs}
 use Rattle.report.specs.Report.{Full, alertSays, roomRows}
 use Rattle.report.specs.Answers.{answerOf}
 use Rattle.report.specs.Promise.{writesHits}
 use Rattle.report.specs.declared.Answer.{Answer}
+use Rattle.report.specs.declared.Wanted.{Wanted}
 use Rattle.report.specs.declared.Listed.{Listed}
 use Rattle.report.specs.declared.Listed.the-variants.{All, Short}
 
--- a record that is a hit, and the words of one
-abbrev pub hitRec : ℕ → ℕ → List ℕ → Rec → Bool
-hitRec client class places r = isHit client class places (subOf plain r)
+-- a record of two words
+abbrev pub rec : ℕ → ℕ → Rec
+rec first second = record { first = first; second = second }
 
+-- a record that the code takes for a hit: by its words, and by places that are packed
+unfoldable pub found : Wanted → List ℕ → Rec → Bool
+found wanted sent r =
+    eqb (plain .who (r .second)) (wanted .client)
+    && (packedMatchSome (packed (r .first)) sent && hasClass (plain .wish (r .second)) (wanted .class))
+
+-- the subscriptions of those records of a book that pass a test
+unfoldable pub hitSubs : (Rec → Bool) → List ℕ → List Sub
+hitSubs test w = map (subOf plain) (keep test (recs w))
+
+-- the words of a record
 abbrev pub pair : Rec → List ℕ
 pair r = pairs (subOf plain r ∷ [])
 
@@ -43,9 +57,9 @@ pair r = pairs (subOf plain r ∷ [])
 unfoldable pub span : List ℕ → ℕ → ℕ → List Rec
 span w from n = table n (λ i. recAt w (from + i))
 
--- the words of the hits among some records
-unfoldable pub hitWords : ℕ → ℕ → List ℕ → List Rec → List ℕ
-hitWords client class places records = pairs (map (subOf plain) (keep (hitRec client class places) records))
+-- the words of those among some records that pass a test
+unfoldable pub hitWords : (Rec → Bool) → List Rec → List ℕ
+hitWords test records = pairs (map (subOf plain) (keep test records))
 
 -- s was written at index `at` of d, which then holds d′; r is the index after it
 pub record Wrote (d : List ℕ) (at : ℕ) (s d′ : List ℕ) (r : ℕ) : Type 0 where
@@ -73,9 +87,14 @@ pub record TimedReport (times : Times) (a : Alert) (hits : List Sub) (out : List
   pub says : r ≡ answerOf (timedSays times (length out) a hits)
   pub lent : left ≡ leaves writesHits (timedSays times (length out) a hits) out
 
--- fields that were read: so many places as are counted, an issue and a duration that a text can say
-pub record Readable (f : Fields) : Type 0 where
+-- fields that were read: so many places as are counted, each of six digits
+pub record PlacesRead (f : Fields) : Type 0 where
   pub few : f .count ≤ length (f .places)
+  pub codes : every (λ p. ltb p 1000000) (alertIn f .places) ≡ true
+
+-- and an issue and a duration that a text can say
+pub record Readable (f : Fields) : Type 0 where
+  pub places : PlacesRead f
   pub issue : isIssue (f .day) (f .hour) (f .minute) ≡ true
   pub lasts : isDuration (f .duration) ≡ true
 

@@ -1,18 +1,23 @@
 // One client's report over a book, a header text and a clock.
 ghost use mathlib.Core.Path.{_≡_};
-ghost use mathlib.Core.Bool.{true};
+ghost use mathlib.Core.Bool.{true, not};
+ghost use lib.Dec.{ltb};
 ghost use Prim.Native.Nat.{_+_, _-_, _*_, _<_, _≤_};
 ghost use lib.ListN.{length};
-ghost use Rattle.laws.specs.Order.{refused as refusedBy, refusedAt as refusedAtBy};
-ghost use Rattle.laws.specs.Lists.{tally, keep};
+ghost use mathlib.Core.List.{[], _∷_};
+ghost use Rattle.laws.specs.Lists.{tally, one};
 ghost use Rattle.header.specs.Answers.{alertIn};
 ghost use Rattle.rules.specs.Form.{plain};
-ghost use Rattle.rules.specs.Rules.{recAt, good};
+ghost use Rattle.rules.specs.Rules.{good};
 ghost use Rattle.rules.specs.Afresh.{subs};
-ghost use Rattle.report.specs.Hits.{hasClass, isHit, hitsOf};
-ghost use Rattle.report.specs.Answers.{noSummary, answerOf};
+ghost use Rattle.report.specs.Hits.{hasClass, hitsOf};
 ghost use Rattle.report.specs.Promise.{ReportPromise};
-ghost use Rattle.report.specs.Steps.{hitRec, pair, span, hitWords, Wrote, ListsHits, kindOf, TimedReport, Readable, AlertReport, timedRefusal, readRefusal};
+ghost use Rattle.report.specs.Steps.{rec, found, hitSubs, span, hitWords, Wrote, ListsHits, kindOf, TimedReport, PlacesRead, Readable, AlertReport};
+use refusals::refused;
+use refusals::unread;
+use refusals::untimed;
+
+mod refusals;
 
 // What a report says of the text.
 pub struct Summary {
@@ -35,67 +40,6 @@ pub struct Answer {
     pub summary: Summary,
 }
 
-// ---- refusals
-
-fn no_summary() -> Summary
-    ensures { λ r. ⌜ r ≡ noSummary ⌝ }
-{
-    let zero = clock::Stamp {
-        month: 0,
-        day: 0,
-        hour: 0,
-        minute: 0,
-    };
-    let times = clock::Times {
-        issued: zero,
-        until: zero,
-        state: clock::State::Early,
-    };
-    Summary {
-        times,
-        event: [0, 0, 0],
-        listed: false,
-        class: 0,
-        hits: 0,
-    }
-}
-
-fn refused(n: u32) -> Answer
-    ensures { λ r. ⌜ r ≡ answerOf (refusedBy n) ⌝ }
-{
-    Answer {
-        verdict: Verdict::Refused(n),
-        summary: no_summary(),
-    }
-}
-
-fn refused_at(n: u32, i: usize) -> Answer
-    ensures { λ r. ⌜ r ≡ answerOf (refusedAtBy n i) ⌝ }
-{
-    Answer {
-        verdict: Verdict::RefusedAt(n, i),
-        summary: no_summary(),
-    }
-}
-
-fn untimed(t: clock::Timed) -> Answer
-    ensures { λ r. ⌜ r ≡ timedRefusal t ⌝ }
-{
-    match t {
-        clock::Timed::Granted(_) => refused(0),
-        clock::Timed::Refused(n) => refused(n),
-    }
-}
-
-fn unread(v: header::Verdict) -> Answer
-    ensures { λ r. ⌜ r ≡ readRefusal v ⌝ }
-{
-    match v {
-        header::Verdict::Granted => refused_at(0, 0),
-        header::Verdict::RefusedAt(n, i) => refused_at(n, i),
-    }
-}
-
 // ---- hits
 
 // Whether a wish has a class: one shift.
@@ -111,73 +55,84 @@ fn has_class(wish: u32, class: u32) -> bool
     (wish >> (class - 1)) % 2 == 1
 }
 
-// Whether record i is a hit. The client is tested first: another's record costs one look and one comparison.
-fn is_hit(book: &[u32], i: usize, client: u32, class: u32, places: &[u32]) -> bool
-    requires { ⌜ (length (now book) ≡ 8293) × (i < 4096) ⌝ }
-    ensures { λ r. ⌜ r ≡ hitRec client class (now (places .entry)) (recAt (now (book .entry)) i) ⌝ }
-{
-    let second = book[102 + 2 * i];
-    if book::client_of(second) != client {
-        return false;
-    }
-    if !has_class(book::wish_of(second), class) {
-        return false;
-    }
-    place::matches_some(place::place_of(book[101 + 2 * i]), places)
-}
-
-// How many of the records from..to are hits.
-fn count_hits(
-    book: &[u32],
-    from: usize,
-    to: usize,
+// Whose records a report lists, and the class of the alert.
+struct Wanted {
     client: u32,
     class: u32,
-    places: &[u32],
-) -> usize
+}
+
+// Whether a record is a hit.
+fn is_hit(first: u32, second: u32, wanted: Wanted, sent: &[u32]) -> bool
+    ensures { λ r. ⌜ r ≡ found wanted (now (sent .entry)) (rec first second) ⌝ }
+{
+    if records::client_of(second) != wanted.client {
+        return false;
+    }
+    if !has_class(records::wish_of(second), wanted.class) {
+        return false;
+    }
+    place::packed_match_some(place::pack(first), sent)
+}
+
+// How many of the records from..to are hits. Another's record costs one look and one comparison, and no call.
+fn count_hits(book: &[u32], from: usize, to: usize, wanted: Wanted, sent: &[u32]) -> usize
     requires { ⌜ (length (now book) ≡ 8293) × (from ≤ to) × (to ≤ 4096) ⌝ }
-    ensures { λ r. ⌜ r ≡ tally (hitRec client class (now (places .entry))) (span (now (book .entry)) from (to - from)) ⌝ }
+    ensures { λ r. ⌜ r ≡ tally (found wanted (now (sent .entry))) (span (now (book .entry)) from (to - from)) ⌝ }
 {
     let mut hits: usize = 0;
     let mut i = from;
     while i < to {
-        if is_hit(book, i, client, class, places) {
-            hits += 1;
+        let second = book[102 + 2 * i];
+        if records::client_of(second) == wanted.client {
+            if is_hit(book[101 + 2 * i], second, wanted, sent) {
+                hits += 1;
+            }
         }
         i += 1;
     }
     hits
 }
 
-// Writes the place and the wish of record i at index at, and answers the index after them.
-fn put_hit(book: &[u32], i: usize, out: &mut [u32], at: usize) -> usize
-    requires { ⌜ (length (now book) ≡ 8293) × (i < 4096) × (at + 2 ≤ length (now out)) ⌝ }
-    ensures { λ r. ⌜ Wrote (now (out .entry)) at (pair (recAt (now (book .entry)) i)) (now (out .exit)) r ⌝ }
+// Writes the place and the wish of a record at index at if it is a hit, and answers the index after what was written.
+fn put_hit(
+    first: u32,
+    second: u32,
+    wanted: Wanted,
+    sent: &[u32],
+    out: &mut [u32],
+    at: usize,
+) -> usize
+    requires { ⌜ at + 2 * one (found wanted (now sent) (rec first second)) ≤ length (now out) ⌝ }
+    ensures { λ r. ⌜ Wrote (now (out .entry)) at (hitWords (found wanted (now (sent .entry))) (rec first second ∷ [])) (now (out .exit)) r ⌝ }
 {
-    out[at] = place::place_of(book[101 + 2 * i]);
-    out[at + 1] = book::wish_of(book[102 + 2 * i]);
+    if !is_hit(first, second, wanted, sent) {
+        return at;
+    }
+    out[at] = place::place_of(first);
+    out[at + 1] = records::wish_of(second);
     at + 2
 }
 
-// Writes the hits of the records from..to from index at on, and answers the index after them.
+// Writes the hits of the records from..to from index at on, and answers the index after them. Another's record costs as little as in
+// the count.
 fn write_hits(
     book: &[u32],
     from: usize,
     to: usize,
-    client: u32,
-    class: u32,
-    places: &[u32],
+    wanted: Wanted,
+    sent: &[u32],
     out: &mut [u32],
     at: usize,
 ) -> usize
-    requires { ⌜ (length (now book) ≡ 8293) × (from ≤ to) × (to ≤ 4096) × (at + 2 * tally (hitRec client class (now places)) (span (now book) from (to - from)) ≤ length (now out)) ⌝ }
-    ensures { λ r. ⌜ Wrote (now (out .entry)) at (hitWords client class (now (places .entry)) (span (now (book .entry)) from (to - from))) (now (out .exit)) r ⌝ }
+    requires { ⌜ (length (now book) ≡ 8293) × (from ≤ to) × (to ≤ 4096) × (at + 2 * tally (found wanted (now sent)) (span (now book) from (to - from)) ≤ length (now out)) ⌝ }
+    ensures { λ r. ⌜ Wrote (now (out .entry)) at (hitWords (found wanted (now (sent .entry))) (span (now (book .entry)) from (to - from))) (now (out .exit)) r ⌝ }
 {
     let mut e = at;
     let mut i = from;
     while i < to {
-        if is_hit(book, i, client, class, places) {
-            e = put_hit(book, i, out, e);
+        let second = book[102 + 2 * i];
+        if records::client_of(second) == wanted.client {
+            e = put_hit(book[101 + 2 * i], second, wanted, sent, out, e);
         }
         i += 1;
     }
@@ -190,19 +145,30 @@ enum Listed {
     Short,
 }
 
-// Writes the hits where there is room for them. Too little room must write nothing, so they are counted first: two passes over
-// the records, the second only where there is room.
-fn list_hits(book: &[u32], client: u32, class: u32, places: &[u32], out: &mut [u32]) -> Listed
+// Whether the hits of a book find room in so many words. Where every record of the book does, the hits need no count.
+fn has_room(book: &[u32], wanted: Wanted, sent: &[u32], room: usize) -> bool
     requires { ⌜ good plain (now book) ≡ true ⌝ }
-    ensures { λ r. ⌜ ListsHits (keep (isHit client class (now (places .entry))) (subs plain (now (book .entry)))) (now (out .entry)) r (now (out .exit)) ⌝ }
+    ensures { λ r. ⌜ r ≡ not (ltb room (2 * length (hitSubs (found wanted (now (sent .entry))) (now (book .entry))))) ⌝ }
 {
-    let total = book[100] as usize;
-    let hits = count_hits(book, 0, total, client, class, places);
-    if out.len() < 2 * hits {
+    let records = book[100] as usize;
+    if 2 * records <= room {
+        return true;
+    }
+    2 * count_hits(book, 0, records, wanted, sent) <= room
+}
+
+// Writes the hits where there is room for them. Too little room must write nothing, so it is asked for first: one pass over the
+// records, or two, of which the first counts.
+fn list_hits(book: &[u32], wanted: Wanted, sent: &[u32], out: &mut [u32]) -> Listed
+    requires { ⌜ good plain (now book) ≡ true ⌝ }
+    ensures { λ r. ⌜ ListsHits (hitSubs (found wanted (now (sent .entry))) (now (book .entry))) (now (out .entry)) r (now (out .exit)) ⌝ }
+{
+    if !has_room(book, wanted, sent, out.len()) {
         return Listed::Short;
     }
-    write_hits(book, 0, total, client, class, places, out, 0);
-    Listed::All(hits)
+    let total = book[100] as usize;
+    let end = write_hits(book, 0, total, wanted, sent, out, 0);
+    Listed::All(end / 2)
 }
 
 // ---- the report
@@ -223,13 +189,18 @@ fn timed_report(
     times: clock::Times,
     out: &mut [u32],
 ) -> Answer
-    requires { ⌜ (good plain (now book) ≡ true) × (f .count ≤ length (f .places)) ⌝ }
+    requires { ⌜ (good plain (now book) ≡ true) × PlacesRead f ⌝ }
     ensures { λ r. ⌜ TimedReport times (alertIn f) (hitsOf client (alertIn f) (subs plain (now (book .entry)))) (now (out .entry)) r (now (out .exit)) ⌝ }
 {
     let kind = kind_of(&f.event);
-    let places = f.places;
+    let mut places = f.places;
     let n = f.count;
-    let listed = list_hits(book, client, kind.class, &places[..n], out);
+    place::pack_places(&mut places[..n]);
+    let wanted = Wanted {
+        client,
+        class: kind.class,
+    };
+    let listed = list_hits(book, wanted, &places[..n], out);
     let Listed::All(hits) = listed else {
         return refused(13);
     };
@@ -266,17 +237,17 @@ fn alert_report(
 }
 
 // One client's report: the summary, and the hits written as pairs of place and wish; or a refusal, and nothing is written. One
-// check of the book, one reading of the header, and the two passes of list_hits.
+// check of the book, one reading of the header, and one or two passes of list_hits.
 pub fn report(book: &[u32], client: u32, header: &[u8], at: clock::Clock, out: &mut [u32]) -> Answer
     ensures { λ r. ⌜ ReportPromise (now (book .entry)) client (now (header .entry)) at (now (out .entry)) r (now (out .exit)) ⌝ }
 {
-    if !book::is_good(book) {
+    if !good::is_good(book) {
         return refused(16);
     }
-    if book::bad_client(client) {
+    if records::bad_client(client) {
         return refused(17);
     }
-    let read = header::read(header);
+    let read = reading::read(header);
     let verdict = read.verdict;
     let header::Verdict::Granted = verdict else {
         return unread(verdict);

@@ -1,5 +1,1 @@
-pub mod Packs
-pub mod Filled
-pub mod Pastes
-pub mod Reported
 pub mod NoChoice

@@ -1,31 +1,25 @@
 -- Two answers that meet a promise are equal, with what they leave. Assumes nothing.
-use Prim.Native.Nat.{ℕ}
+use Prim.Native.Nat.{ℕ, _<_}
 use mathlib.Core.List.{List}
-use mathlib.Core.Bool.{true}
 use lib.ListN.{length}
 use Rattle.laws.specs.Space.{pasted}
-use Rattle.laws.specs.Order.{isRefusal}
-use Rattle.laws.proofs.Order.{refusal-leaves}
-use Rattle.header.specs.Header.{textOf}
-use Rattle.header.specs.Answers.{fieldsOf, alertIn}
-use Rattle.report.specs.Promise.{writesHits}
-use Rattle.same.specs.Words.{wordsOf, fieldsIn, summaryWords}
-use Rattle.same.specs.Says.{fieldsSay, textSays, summarySays}
-use mathlib.Core.Path.{_≡_, sym, _∙_}
-use Rattle.same.specs.Promise.{StripPromise, VotePromise, ReadPromise, WritePromise, ListedPromise, ClassPromise, MatchesPromise, GoodPromise, AddPromise, RemovePromise, LoadPromise, ReportPromise, PagePromise}
-use Rattle.clock.specs.declared.Clock.{Clock}
+use Rattle.burst.specs.Strip.{stripped}
+use Rattle.burst.specs.Vote.{text, voteSays, voteLeaves}
+use Rattle.rules.specs.Form.{plain}
+use Rattle.rules.specs.Edits.{addSays, added, removeSays, removed}
+use Rattle.rules.specs.Load.{loadSays}
+use Rattle.printing.specs.Promise.{printSays}
+use Rattle.page.specs.Page.{pageOf}
+use Rattle.answers.specs.Answer.{numberIn}
+use Rattle.answers.proofs.Keeps.{keeps, keeps-of}
+use mathlib.Core.Path.{_≡_, refl, sym, _∙_}
+use Rattle.same.specs.Promise.{StripPromise, VotePromise, ListedPromise, ClassPromise, MatchesPromise, GoodPromise, AddPromise, RemovePromise, LoadPromise, PagePromise}
 
 pub strip-no-choice : (burst : List ℕ) (r q : ℕ) → StripPromise burst r → StripPromise burst q → r ≡ q
 strip-no-choice burst r q a b = a .says ∙ sym (b .says)
 
 pub vote-no-choice : (x y z out : List ℕ) (r q : ℕ) (left kept : List ℕ) → VotePromise x y z out r left → VotePromise x y z out q kept → (r ≡ q) × (left ≡ kept)
 vote-no-choice x y z out r q left kept a b = (a .says ∙ sym (b .says), a .space ∙ sym (b .space))
-
-pub read-no-choice : (text d : List ℕ) (r q : ℕ) (left kept : List ℕ) → ReadPromise text d r left → ReadPromise text d q kept → (r ≡ q) × (left ≡ kept)
-read-no-choice text d r q left kept a b = (a .says ∙ sym (b .says), a .space ∙ sym (b .space))
-
-pub write-no-choice : (w d : List ℕ) (r q : ℕ) (left kept : List ℕ) → WritePromise w d r left → WritePromise w d q kept → (r ≡ q) × (left ≡ kept)
-write-no-choice w d r q left kept a b = (a .says ∙ sym (b .says), a .space ∙ sym (b .space))
 
 pub listed-no-choice : (x y z r q : ℕ) → ListedPromise x y z r → ListedPromise x y z q → r ≡ q
 listed-no-choice x y z r q a b = a .says ∙ sym (b .says)
@@ -48,22 +42,28 @@ remove-no-choice w place client r q left kept a b = (a .says ∙ sym (b .says), 
 pub load-no-choice : (w items : List ℕ) (r q : ℕ) (left kept : List ℕ) → LoadPromise w items r left → LoadPromise w items q kept → (r ≡ q) × (left ≡ kept)
 load-no-choice w items r q left kept a b = (a .says ∙ sym (b .says), a .space ∙ sym (b .space))
 
-pub report-no-choice : (book : List ℕ) (client : ℕ) (text : List ℕ) (at : Clock) (d h : List ℕ) (r q : ℕ) (left rest kept held : List ℕ) → ReportPromise book client text at d h r left rest → ReportPromise book client text at d h q kept held → (r ≡ q) × (left ≡ kept) × (rest ≡ held)
-report-no-choice book client text at d h r q left rest kept held a b = (a .says ∙ sym (b .says), a .summary ∙ sym (b .summary), a .hits ∙ sym (b .hits))
-
 pub page-no-choice : (input out : List ℕ) (r q : ℕ) (left kept : List ℕ) → PagePromise input out r left → PagePromise input out q kept → (r ≡ q) × (left ≡ kept)
 page-no-choice input out r q left kept a b = (a .says ∙ sym (b .says), a .space ∙ sym (b .space))
 
--- ---- a refusal leaves lent space as it was
+-- ---- a refusal leaves lent space as it was: a caller sees it by the number in the low half
 
-pub read-refusal-writes-nothing : (text d : List ℕ) (r : ℕ) (left : List ℕ) → ReadPromise text d r left → isRefusal (fieldsSay text (length d)) ≡ true → left ≡ d
-read-refusal-writes-nothing text d r left p e = p .space ∙ refusal-leaves (λ a out. pasted out 0 (wordsOf (fieldsOf a))) (fieldsSay text (length d)) d e
+pub vote-refusal-writes-nothing : (a b c out : List ℕ) (r : ℕ) (left : List ℕ) → VotePromise a b c out r left → 0 < numberIn r → left ≡ out
+unfolding voteLeaves
+vote-refusal-writes-nothing a b c out r left p =
+    keeps (λ n d. pasted d 0 (text (stripped a) (stripped b) (stripped c) n)) (voteSays a b c (length out)) (voteSays a b c (length out)) out left r refl (p .says) (p .space)
 
-pub write-refusal-writes-nothing : (w d : List ℕ) (r : ℕ) (left : List ℕ) → WritePromise w d r left → isRefusal (textSays w (length d)) ≡ true → left ≡ d
-write-refusal-writes-nothing w d r left p e = p .space ∙ refusal-leaves (λ n out. pasted out 0 (textOf (alertIn (fieldsIn w)))) (textSays w (length d)) d e
+pub add-refusal-writes-nothing : (w : List ℕ) (place client wish r : ℕ) (left : List ℕ) → AddPromise w place client wish r left → 0 < numberIn r → left ≡ w
+add-refusal-writes-nothing w place client wish r left p =
+    keeps-of (λ u. 0) (λ u. added plain place client wish) (addSays plain w place client wish) w left r (p .says) (p .space)
 
-pub report-refusal-writes-nothing : (book : List ℕ) (client : ℕ) (text : List ℕ) (at : Clock) (d h : List ℕ) (r : ℕ) (left rest : List ℕ) → ReportPromise book client text at d h r left rest → isRefusal (summarySays book client text at (length d) (length h)) ≡ true → (left ≡ d) × (rest ≡ h)
-report-refusal-writes-nothing book client text at d h r left rest p e = (
-  p .summary ∙ refusal-leaves (λ g out. pasted out 0 (summaryWords (g .summary))) (summarySays book client text at (length d) (length h)) d e,
-  p .hits ∙ refusal-leaves writesHits (summarySays book client text at (length d) (length h)) h e,
-)
+pub remove-refusal-writes-nothing : (w : List ℕ) (place client r : ℕ) (left : List ℕ) → RemovePromise w place client r left → 0 < numberIn r → left ≡ w
+remove-refusal-writes-nothing w place client r left p =
+    keeps-of (λ u. 0) (λ u. removed plain place client) (removeSays plain w place client) w left r (p .says) (p .space)
+
+pub load-refusal-writes-nothing : (w items : List ℕ) (r : ℕ) (left : List ℕ) → LoadPromise w items r left → 0 < numberIn r → left ≡ w
+load-refusal-writes-nothing w items r left p =
+    keeps-of (λ b. 0) (λ b d. b) (loadSays plain w items) w left r (p .says) (p .space)
+
+pub page-refusal-writes-nothing : (input out : List ℕ) (r : ℕ) (left : List ℕ) → PagePromise input out r left → 0 < numberIn r → left ≡ out
+page-refusal-writes-nothing input out r left p =
+    keeps (λ n d. pasted d 0 (pageOf input)) (printSays (pageOf input) (length out)) (printSays (pageOf input) (length out)) out left r refl (p .says) (p .space)

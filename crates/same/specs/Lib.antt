@@ -1,5 +1,2 @@
-pub mod Answer
-pub mod Words
 pub mod Says
 pub mod Promise
-pub mod Steps

@@ -1,4 +1,5 @@
--- What the calls from outside promise: the number that they answer, and every lent word or byte afterwards.
+-- What the calls from outside promise: the number that they answer, and every lent word or byte afterwards. Those of reading, writing
+-- and reporting stand in crate words.
 use Prim.Native.Nat.{ℕ}
 use mathlib.Core.List.{List}
 use mathlib.Core.Path.{_≡_}
@@ -12,15 +13,10 @@ use Rattle.place.specs.Place.{matches}
 use Rattle.rules.specs.Form.{plain}
 use Rattle.rules.specs.Edits.{addSays, added, removeSays, removed}
 use Rattle.rules.specs.Load.{loadSays}
-use Rattle.header.specs.Header.{textOf}
-use Rattle.header.specs.Answers.{fieldsOf, alertIn}
-use Rattle.clock.specs.declared.Clock.{Clock}
-use Rattle.report.specs.Promise.{writesHits}
 use Rattle.printing.specs.Promise.{printSays}
 use Rattle.page.specs.Page.{pageOf}
-use Rattle.same.specs.Answer.{packed, bare}
-use Rattle.same.specs.Words.{wordsOf, fieldsIn, summaryWords}
-use Rattle.same.specs.Says.{stripSays, goodSays, fieldsSay, howMany, textSays, summarySays, howManyHits}
+use Rattle.answers.specs.Answer.{packed, bare}
+use Rattle.same.specs.Says.{stripSays, goodSays}
 
 -- ---- bursts
 
@@ -30,18 +26,6 @@ pub record StripPromise (burst : List ℕ) (r : ℕ) : Type 0 where
 pub record VotePromise (a b c out : List ℕ) (r : ℕ) (left : List ℕ) : Type 0 where
   pub says : r ≡ packed (voteSays a b c (length out))
   pub space : left ≡ voteLeaves a b c out
-
--- ---- header texts
-
--- lent words that hold d at first and left at last
-pub record ReadPromise (text d : List ℕ) (r : ℕ) (left : List ℕ) : Type 0 where
-  pub says : r ≡ packed (howMany (fieldsSay text (length d)))
-  pub space : left ≡ leaves (λ a out. pasted out 0 (wordsOf (fieldsOf a))) (fieldsSay text (length d)) d
-
--- fields w, and lent bytes that hold d at first and left at last
-pub record WritePromise (w d : List ℕ) (r : ℕ) (left : List ℕ) : Type 0 where
-  pub says : r ≡ packed (textSays w (length d))
-  pub space : left ≡ leaves (λ n out. pasted out 0 (textOf (alertIn (fieldsIn w)))) (textSays w (length d)) d
 
 -- ---- events and places: 1 for yes, 0 for no
 
@@ -70,13 +54,6 @@ pub record RemovePromise (w : List ℕ) (place client r : ℕ) (left : List ℕ)
 pub record LoadPromise (w items : List ℕ) (r : ℕ) (left : List ℕ) : Type 0 where
   pub says : r ≡ packed (bare (loadSays plain w items))
   pub space : left ≡ leaves (λ b d. b) (loadSays plain w items) w
-
--- ---- the report: lent words for the summary, which hold d, and for the hits, which hold h
-
-pub record ReportPromise (book : List ℕ) (client : ℕ) (text : List ℕ) (at : Clock) (d h : List ℕ) (r : ℕ) (left rest : List ℕ) : Type 0 where
-  pub says : r ≡ packed (howManyHits (summarySays book client text at (length d) (length h)))
-  pub summary : left ≡ leaves (λ g out. pasted out 0 (summaryWords (g .summary))) (summarySays book client text at (length d) (length h)) d
-  pub hits : rest ≡ leaves writesHits (summarySays book client text at (length d) (length h)) h
 
 -- ---- the program
 

@@ -11,7 +11,7 @@ returns : tie.Need-returns
 returns c = put-not _ _ _ (omega arith)
 
 slice-write-out : tie.Need-slice-write-out
-slice-write-out c = search needs
+slice-write-out c = omega arith
 
 add-result : tie.Need-add-result
 add-result c = search needs

@@ -1,10 +1,10 @@
--- `event::kind_of` meets its contract: what is found has its class from the table, and what is not goes by its third letter. Assumes nothing.
+-- `event::kind_of` meets its contract: what is found has its class from the table, and what is not is asked for by itself. Assumes nothing.
 use mathlib.Core.Path.{_∙_, sym}
 use native.Mathlib.Omega.{arith}
 use borrow.Author.Needs.{needs}
 use borrow.Author.Tests.{lt-ltb, le-ltb}
 use Rattle.event.specs.Events.{code}
-use Rattle.event.proofs.Search.{listed-class, unlisted-class}
+use Rattle.event.proofs.Search.{listed-class}
 use Rattle.event.proofs.kind_of.Statement.{statement}
 use Rattle.event.proofs.kind_of.Tie as tie
 
@@ -23,18 +23,14 @@ returns c =
       class = c .class-at .ensures ∙ listed-class (code (a .a) (a .b) (a .c)) (f .result) (f .ensures) (omega arith);
     }
 
-by-third-requires : tie.Need-by-third-requires
-by-third-requires c κs = search needs
+class-of-requires : tie.Need-class-of-requires
+class-of-requires c κs = search needs
 
 returns-2 : tie.Need-returns-2
 returns-2 c =
-    let a = c .before .before .before .args in
     let f = c .before .before .find in
-    record {
-      listed = sym (le-ltb (f .result) 61 (omega arith)) ∙ f .ensures .listed;
-      class = c .by-third .ensures ∙ unlisted-class (code (a .a) (a .b) (a .c)) (f .result) (f .ensures) (omega arith);
-    }
+    record { listed = sym (le-ltb (f .result) 61 (omega arith)) ∙ f .ensures .listed; class = c .class-of .ensures .says }
 
 pub kind-of-spec : {M : Type 1} → statement M
 kind-of-spec =
-    tie.close (tie.spec find-requires class-at-requires returns by-third-requires returns-2)
+    tie.close (tie.spec find-requires class-at-requires returns class-of-requires returns-2)

@@ -9,7 +9,7 @@ is-written-requires : tie.Need-is-written-requires
 is-written-requires c κs = search needs
 
 returns : tie.Need-returns
-returns c = record { says = c .is-written .ensures ∙ sym (duration-ok _) }
+returns c = record { says = c .is-written .ensures .says ∙ sym (duration-ok _) }
 
 pub is-duration-spec : {M : Type 1} → statement M
 is-duration-spec = tie.close (tie.spec is-written-requires returns)

@@ -26,7 +26,7 @@ between-requires : tie.Need-between-requires Inv-loop μ-loop
 between-requires c κs = search needs
 
 returns : tie.Need-returns Inv-loop μ-loop
-returns c = sym (failed (within 65 90) _ _ (c .before .before .before .loop-test .taken) (sym (c .before .between .ensures .says) ∙ not-true (c .before .between .result) (c .if1 .taken)) (c .before .before .before .before .loop .inv))
+returns c = record { says = sym (failed (within 65 90) _ _ (c .before .before .before .loop-test .taken) (sym (c .before .between .ensures .says) ∙ not-true (c .before .between .result) (c .if1 .taken)) (c .before .before .before .before .loop .inv)) }
 
 add-k : tie.Need-add-k Inv-loop μ-loop
 add-k c = omega arith
@@ -38,7 +38,7 @@ loop-again : tie.Need-loop-again Inv-loop μ-loop
 loop-again c = passed (within 65 90) _ _ (c .before .before .before .loop-test .taken) (sym (c .before .between .ensures .says) ∙ not-false (c .before .between .result) (c .if1 .left)) (c .before .before .before .before .loop .inv)
 
 returns-2 : tie.Need-returns-2 Inv-loop μ-loop
-returns-2 c = sym (ended (within 65 90) _ _ (c .loop-test .left) (c .before .loop .inv))
+returns-2 c = record { says = sym (ended (within 65 90) _ _ (c .loop-test .left) (c .before .loop .inv)) }
 
 pub is-event-spec : {M : Type 1} → statement M
 is-event-spec =

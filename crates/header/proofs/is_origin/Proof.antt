@@ -12,7 +12,7 @@ same-requires : tie.Need-same-requires
 same-requires c κs = search needs
 
 returns : tie.Need-returns
-returns c = simp (sym (c .before .same .ensures .says) ∙ c .if1 .taken)
+returns c = record { says = simp (sym (c .before .same .ensures .says) ∙ c .if1 .taken) }
 
 slice-aggregate-same-2 : tie.Need-slice-aggregate-same-2
 slice-aggregate-same-2 c = search needs
@@ -21,7 +21,7 @@ same-requires-2 : tie.Need-same-requires-2
 same-requires-2 c κs = search needs
 
 returns-2 : tie.Need-returns-2
-returns-2 c = simp (sym (c .before .before .before .before .same .ensures .says) ∙ c .before .before .before .if1 .left, sym (c .before .same2 .ensures .says) ∙ c .if2 .taken)
+returns-2 c = record { says = simp (sym (c .before .before .before .before .same .ensures .says) ∙ c .before .before .before .if1 .left, sym (c .before .same2 .ensures .says) ∙ c .if2 .taken) }
 
 slice-aggregate-same-3 : tie.Need-slice-aggregate-same-3
 slice-aggregate-same-3 c = search needs
@@ -30,7 +30,7 @@ same-requires-3 : tie.Need-same-requires-3
 same-requires-3 c κs = search needs
 
 returns-3 : tie.Need-returns-3
-returns-3 c = simp (sym (c .before .before .before .before .before .before .before .same .ensures .says) ∙ c .before .before .before .before .before .before .if1 .left, sym (c .before .before .before .before .same2 .ensures .says) ∙ c .before .before .before .if2 .left, sym (c .before .same3 .ensures .says) ∙ c .if3 .taken)
+returns-3 c = record { says = simp (sym (c .before .before .before .before .before .before .before .same .ensures .says) ∙ c .before .before .before .before .before .before .if1 .left, sym (c .before .before .before .before .same2 .ensures .says) ∙ c .before .before .before .if2 .left, sym (c .before .same3 .ensures .says) ∙ c .if3 .taken) }
 
 slice-aggregate-same-4 : tie.Need-slice-aggregate-same-4
 slice-aggregate-same-4 c = search needs
@@ -39,7 +39,7 @@ same-requires-4 : tie.Need-same-requires-4
 same-requires-4 c κs = search needs
 
 returns-4 : tie.Need-returns-4
-returns-4 c = simp (sym (c .before .before .before .before .before .before .before .before .before .same .ensures .says) ∙ c .before .before .before .before .before .before .before .before .if1 .left, sym (c .before .before .before .before .before .before .same2 .ensures .says) ∙ c .before .before .before .before .before .if2 .left, sym (c .before .before .before .same3 .ensures .says) ∙ c .before .before .if3 .left, or-false) (c .same4 .ensures .says)
+returns-4 c = record { says = simp (sym (c .before .before .before .before .before .before .before .before .before .same .ensures .says) ∙ c .before .before .before .before .before .before .before .before .if1 .left, sym (c .before .before .before .before .before .before .same2 .ensures .says) ∙ c .before .before .before .before .before .if2 .left, sym (c .before .before .before .same3 .ensures .says) ∙ c .before .before .if3 .left, or-false) (c .same4 .ensures .says) }
 
 pub is-origin-spec : {M : Type 1} → statement M
 is-origin-spec =

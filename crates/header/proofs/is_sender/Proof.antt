@@ -26,7 +26,7 @@ sender-byte-requires : tie.Need-sender-byte-requires Inv-loop μ-loop
 sender-byte-requires c κs = search needs
 
 returns : tie.Need-returns Inv-loop μ-loop
-returns c = sym (failed isSenderByte _ _ (c .before .before .before .loop-test .taken) (sym (c .before .sender-byte .ensures) ∙ not-true (c .before .sender-byte .result) (c .if1 .taken)) (c .before .before .before .before .loop .inv))
+returns c = record { says = sym (failed isSenderByte _ _ (c .before .before .before .loop-test .taken) (sym (c .before .sender-byte .ensures) ∙ not-true (c .before .sender-byte .result) (c .if1 .taken)) (c .before .before .before .before .loop .inv)) }
 
 add-k : tie.Need-add-k Inv-loop μ-loop
 add-k c = omega arith
@@ -38,7 +38,7 @@ loop-again : tie.Need-loop-again Inv-loop μ-loop
 loop-again c = passed isSenderByte _ _ (c .before .before .before .loop-test .taken) (sym (c .before .sender-byte .ensures) ∙ not-false (c .before .sender-byte .result) (c .if1 .left)) (c .before .before .before .before .loop .inv)
 
 returns-2 : tie.Need-returns-2 Inv-loop μ-loop
-returns-2 c = sym (ended isSenderByte _ _ (c .loop-test .left) (c .before .loop .inv))
+returns-2 c = record { says = sym (ended isSenderByte _ _ (c .loop-test .left) (c .before .loop .inv)) }
 
 pub is-sender-spec : {M : Type 1} → statement M
 is-sender-spec =

@@ -1,54 +1,65 @@
 -- `lines::client_line` meets its contract. Assumes nothing.
-use mathlib.Core.Path.{sym, _∙_}
+use Prim.Native.Nat.{_+_, _-_, _<_}
+use mathlib.Core.Path.{_≡_, sym, _∙_}
+use mathlib.Core.Bool.{true}
 use native.Mathlib.Omega.{arith}
-use Rattle.lines.specs.Forms.{clientLine}
-use Rattle.lines.proofs.Ends.{Found, found}
-use Rattle.lines.proofs.Next.{broken, next-as}
+use lib.ListN.{length}
+use borrow.Author.Tests.{not-true, not-false}
+use Rattle.lines.specs.Forms.{clientKind, clientLine}
+use Rattle.lines.specs.Steps.{endsAfter}
+use Rattle.lines.proofs.Fixed.{client-clean, ends-in, not-there, there}
 use borrow.Author.Needs.{needs}
 use Rattle.lines.proofs.client_line.Statement.{statement}
 use Rattle.lines.proofs.client_line.Tie as tie
 
-line : (c : tie.After-known-told) → Found (c .before .before .before .before .before .args .input .now) (c .before .before .before .before .before .args .at) (c .before .e .given .0 .0)
-line c = found _ _ _ (sym (c .before .before .before .line-at .ensures) ∙ c .before .e .given .1)
+ends : (c : tie.Else1) → endsAfter (c .before .before .before .args .input .now) (c .before .before .before .args .at) 11 ≡ true
+ends c = sym (c .before .ends-after .ensures) ∙ not-false (c .before .ends-after .result) (c .if1 .left)
 
-line-at-requires : tie.Need-line-at-requires
-line-at-requires c κs = search needs
+inside : (c : tie.Else1) → c .before .before .before .args .at + 11 < length (c .before .before .before .args .input .now)
+inside c = ends-in _ _ _ (ends c)
 
-enum-known-e : tie.Need-enum-known-e
-enum-known-e c = search needs
-
-enum-told : tie.Need-enum-told
-enum-told c = search needs
+ends-after-requires : tie.Need-ends-after-requires
+ends-after-requires c κs = search needs
 
 returns : tie.Need-returns
-returns c = record { says = broken clientLine _ _ (sym (c .before .before .line-at .ensures) ∙ c .enum-told .given .1) }
+unfolding clientLine
+returns c =
+    let u = c .before in
+    record { says = not-there clientKind client-clean (omega arith) _ _ (sym (u .ends-after .ensures) ∙ not-true (u .ends-after .result) (c .if1 .taken)) }
+
+add-e : tie.Need-add-e
+add-e c = omega (arith, inside c)
 
 sub-client-of : tie.Need-sub-client-of
-sub-client-of c = omega (arith, line c .low)
+sub-client-of c = search needs
 
 part-client-of-start : tie.Need-part-client-of-start
-part-client-of-start c = omega (arith, line c .low)
+part-client-of-start c = search needs
 
 part-client-of-end : tie.Need-part-client-of-end
-part-client-of-end c = omega (arith, line c .inside)
+part-client-of-end c = omega (arith, inside c)
 
 add-client-of : tie.Need-add-client-of
-add-client-of c = omega (arith, line (c .before) .inside)
+add-client-of c = omega (arith, inside (c .before))
 
 client-of-requires : tie.Need-client-of-requires
 client-of-requires c κs = search needs
 
 returns-2 : tie.Need-returns-2
-returns-2 c = record { says = c .client-of .ensures ∙ next-as clientLine _ _ _ (line (c .before .before)) }
+unfolding clientLine
+returns-2 c =
+    let u = c .before .before in
+    let at = u .before .before .before .args .at in
+    let e : at + 11 - at ≡ 11 = omega arith in
+    record { says = rw e at (c .client-of .ensures) ∙ there clientKind client-clean (omega arith) _ _ (ends u) }
 
 pub client-line-spec : {M : Type 1} → statement M
 client-line-spec =
     tie.close
     (tie.spec
-    line-at-requires
-    enum-known-e
-    enum-told
+    ends-after-requires
     returns
+    add-e
     sub-client-of
     part-client-of-start
     part-client-of-end

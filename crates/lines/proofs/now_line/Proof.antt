@@ -1,54 +1,65 @@
 -- `lines::now_line` meets its contract. Assumes nothing.
-use mathlib.Core.Path.{sym, _∙_}
+use Prim.Native.Nat.{_+_, _-_, _<_}
+use mathlib.Core.Path.{_≡_, sym, _∙_}
+use mathlib.Core.Bool.{true}
 use native.Mathlib.Omega.{arith}
-use Rattle.lines.specs.Forms.{nowLine}
-use Rattle.lines.proofs.Ends.{Found, found}
-use Rattle.lines.proofs.Next.{broken, next-as}
+use lib.ListN.{length}
+use borrow.Author.Tests.{not-true, not-false}
+use Rattle.lines.specs.Forms.{nowKind, nowLine}
+use Rattle.lines.specs.Steps.{endsAfter}
+use Rattle.lines.proofs.Fixed.{now-clean, ends-in, not-there, there}
 use borrow.Author.Needs.{needs}
 use Rattle.lines.proofs.now_line.Statement.{statement}
 use Rattle.lines.proofs.now_line.Tie as tie
 
-line : (c : tie.After-known-told) → Found (c .before .before .before .before .before .args .input .now) (c .before .before .before .before .before .args .at) (c .before .e .given .0 .0)
-line c = found _ _ _ (sym (c .before .before .before .line-at .ensures) ∙ c .before .e .given .1)
+ends : (c : tie.Else1) → endsAfter (c .before .before .before .args .input .now) (c .before .before .before .args .at) 17 ≡ true
+ends c = sym (c .before .ends-after .ensures) ∙ not-false (c .before .ends-after .result) (c .if1 .left)
 
-line-at-requires : tie.Need-line-at-requires
-line-at-requires c κs = search needs
+inside : (c : tie.Else1) → c .before .before .before .args .at + 17 < length (c .before .before .before .args .input .now)
+inside c = ends-in _ _ _ (ends c)
 
-enum-known-e : tie.Need-enum-known-e
-enum-known-e c = search needs
-
-enum-told : tie.Need-enum-told
-enum-told c = search needs
+ends-after-requires : tie.Need-ends-after-requires
+ends-after-requires c κs = search needs
 
 returns : tie.Need-returns
-returns c = record { says = broken nowLine _ _ (sym (c .before .before .line-at .ensures) ∙ c .enum-told .given .1) }
+unfolding nowLine
+returns c =
+    let u = c .before in
+    record { says = not-there nowKind now-clean (omega arith) _ _ (sym (u .ends-after .ensures) ∙ not-true (u .ends-after .result) (c .if1 .taken)) }
+
+add-e : tie.Need-add-e
+add-e c = omega (arith, inside c)
 
 sub-now-of : tie.Need-sub-now-of
-sub-now-of c = omega (arith, line c .low)
+sub-now-of c = search needs
 
 part-now-of-start : tie.Need-part-now-of-start
-part-now-of-start c = omega (arith, line c .low)
+part-now-of-start c = search needs
 
 part-now-of-end : tie.Need-part-now-of-end
-part-now-of-end c = omega (arith, line c .inside)
+part-now-of-end c = omega (arith, inside c)
 
 add-now-of : tie.Need-add-now-of
-add-now-of c = omega (arith, line (c .before) .inside)
+add-now-of c = omega (arith, inside (c .before))
 
 now-of-requires : tie.Need-now-of-requires
 now-of-requires c κs = search needs
 
 returns-2 : tie.Need-returns-2
-returns-2 c = record { says = c .now-of .ensures ∙ next-as nowLine _ _ _ (line (c .before .before)) }
+unfolding nowLine
+returns-2 c =
+    let u = c .before .before in
+    let at = u .before .before .before .args .at in
+    let e : at + 17 - at ≡ 17 = omega arith in
+    record { says = rw e at (c .now-of .ensures) ∙ there nowKind now-clean (omega arith) _ _ (ends u) }
 
 pub now-line-spec : {M : Type 1} → statement M
 now-line-spec =
     tie.close
     (tie.spec
-    line-at-requires
-    enum-known-e
-    enum-told
+    ends-after-requires
     returns
+    add-e
     sub-now-of
     part-now-of-start
     part-now-of-end

@@ -2,7 +2,8 @@
 use mathlib.Core.Path.{sym, _∙_}
 use native.Mathlib.Omega.{arith}
 use Rattle.printing.proofs.Writing.{print-as}
-use Rattle.page.proofs.Finishes.{answer-verdict, answer-summary, shows-refused, shows-refused-at, shows-granted}
+use Rattle.report.proofs.Given.{answer-verdict, answer-summary}
+use Rattle.page.proofs.Finishes.{shows-refused, shows-refused-at, shows-granted}
 use borrow.Author.Needs.{needs}
 use Rattle.page.proofs.finish.Statement.{statement}
 use Rattle.page.proofs.finish.Tie as tie

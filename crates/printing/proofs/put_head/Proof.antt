@@ -2,7 +2,7 @@
 use mathlib.Core.List.{[], _∷_}
 use Rattle.laws.specs.Numbers.{dig}
 use Rattle.printing.specs.Page.{line, stampText}
-use Rattle.printing.proofs.Writing.{lines-two}
+use Rattle.printing.proofs.Writing.{line-put, stamp-put, lines-two}
 use borrow.Author.Needs.{needs}
 use Rattle.printing.proofs.put_head.Statement.{statement}
 use Rattle.printing.proofs.put_head.Tie as tie
@@ -33,8 +33,8 @@ returns c =
     let a = c .before .before .before .before .before .before .before .before .before .before .before .before .before .before .before .before .args in
     let issued = line "issued=" (stampText (a .issued)) in
     let until = line "until=" (stampText (a .until)) in
-    lines-two (line "client=" (dig 4 (a .client))) (issued ∷ until ∷ []) (c .before .before .before .before .before .before .before .before .before .before .before .before .put-number .ensures)
-    (lines-two issued (until ∷ []) (c .before .before .before .before .before .before .before .put-stamp .ensures) (c .before .before .put-stamp2 .ensures))
+    lines-two (line "client=" (dig 4 (a .client))) (issued ∷ until ∷ []) (line-put "client=" (c .before .before .before .before .before .before .before .before .before .before .before .before .put-number .ensures))
+    (lines-two issued (until ∷ []) (stamp-put "issued=" (a .issued) (c .before .before .before .before .before .before .before .put-stamp .ensures)) (stamp-put "until=" (a .until) (c .before .before .put-stamp2 .ensures)))
 
 pub put-head-spec : {M : Type 1} → statement M
 put-head-spec =

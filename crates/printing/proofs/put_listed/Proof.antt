@@ -1,4 +1,5 @@
 -- `printing::put_listed` meets its contract. Assumes nothing.
+use Rattle.printing.proofs.Writing.{line-put}
 use borrow.Author.Needs.{needs}
 use Rattle.printing.proofs.put_listed.Statement.{statement}
 use Rattle.printing.proofs.put_listed.Tie as tie
@@ -16,7 +17,7 @@ same-length : tie.Need-same-length
 same-length c = search needs
 
 returns : tie.Need-returns
-returns c = rw (c .before .before .before .before .before .before .if1 .taken) (c .before .before .put-text .ensures)
+returns c = rw (c .before .before .before .before .before .before .if1 .taken) (line-put "listed=" (c .before .before .put-text .ensures))
 
 slice-aggregate-put-text-3 : tie.Need-slice-aggregate-put-text-3
 slice-aggregate-put-text-3 c = search needs
@@ -31,7 +32,7 @@ same-length-2 : tie.Need-same-length-2
 same-length-2 c = search needs
 
 returns-2 : tie.Need-returns-2
-returns-2 c = rw (c .before .before .before .before .before .before .if1 .left) (c .before .before .put-text2 .ensures)
+returns-2 c = rw (c .before .before .before .before .before .before .if1 .left) (line-put "listed=" (c .before .before .put-text2 .ensures))
 
 pub put-listed-spec : {M : Type 1} → statement M
 put-listed-spec =

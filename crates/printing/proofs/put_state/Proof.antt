@@ -1,4 +1,5 @@
 -- `printing::put_state` meets its contract. Assumes nothing.
+use Rattle.printing.proofs.Writing.{line-put}
 use borrow.Author.Needs.{needs}
 use Rattle.printing.proofs.put_state.Statement.{statement}
 use Rattle.printing.proofs.put_state.Tie as tie
@@ -43,19 +44,19 @@ same-length : tie.Need-same-length
 same-length c = search needs
 
 returns : tie.Need-returns
-returns c = rw (c .before .before .before .before .before .before .enum-told .given .1) (c .before .before .put-text .ensures)
+returns c = rw (c .before .before .before .before .before .before .enum-told .given .1) (line-put "state=" (c .before .before .put-text .ensures))
 
 same-length-2 : tie.Need-same-length-2
 same-length-2 c = search needs
 
 returns-2 : tie.Need-returns-2
-returns-2 c = rw (c .before .before .before .before .before .before .enum-told2 .given .1) (c .before .before .put-text2 .ensures)
+returns-2 c = rw (c .before .before .before .before .before .before .enum-told2 .given .1) (line-put "state=" (c .before .before .put-text2 .ensures))
 
 same-length-3 : tie.Need-same-length-3
 same-length-3 c = search needs
 
 returns-3 : tie.Need-returns-3
-returns-3 c = rw (c .before .before .before .before .before .before .enum-told3 .given .1) (c .before .before .put-text3 .ensures)
+returns-3 c = rw (c .before .before .before .before .before .before .enum-told3 .given .1) (line-put "state=" (c .before .before .put-text3 .ensures))
 
 pub put-state-spec : {M : Type 1} → statement M
 put-state-spec =

@@ -2,7 +2,7 @@
 use mathlib.Core.List.{[], _∷_}
 use Rattle.laws.specs.Numbers.{dig}
 use Rattle.printing.specs.Page.{line, yesNo, stateWord}
-use Rattle.printing.proofs.Writing.{lines-two}
+use Rattle.printing.proofs.Writing.{line-put, lines-two}
 use borrow.Author.Needs.{needs}
 use Rattle.printing.proofs.put_what.Statement.{statement}
 use Rattle.printing.proofs.put_what.Tie as tie
@@ -34,9 +34,9 @@ returns c =
     let listed = line "listed=" (yesNo (a .listed)) in
     let class = line "class=" (dig 1 (a .class)) in
     let state = line "state=" (stateWord (a .state)) in
-    lines-two (line "event=" (a .event .now)) (listed ∷ class ∷ state ∷ []) (c .before .before .before .before .before .before .before .before .before .before .before .before .before .before .before .put-text .ensures)
+    lines-two (line "event=" (a .event .now)) (listed ∷ class ∷ state ∷ []) (line-put "event=" (c .before .before .before .before .before .before .before .before .before .before .before .before .before .before .before .put-text .ensures))
     (lines-two listed (class ∷ state ∷ []) (c .before .before .before .before .before .before .before .before .before .before .before .put-listed .ensures)
-    (lines-two class (state ∷ []) (c .before .before .before .before .before .before .put-number .ensures) (c .before .before .put-state .ensures)))
+    (lines-two class (state ∷ []) (line-put "class=" (c .before .before .before .before .before .before .put-number .ensures)) (c .before .before .put-state .ensures)))
 
 pub put-what-spec : {M : Type 1} → statement M
 put-what-spec =

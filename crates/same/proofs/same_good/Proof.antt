@@ -3,8 +3,8 @@ use mathlib.Core.Path.{_≡_, refl, sym, ap, _∙_}
 use Prim.Native.Nat.{ℕ}
 use Rattle.rules.specs.Form.{plain}
 use Rattle.rules.specs.Rules.{good}
-use Rattle.same.specs.Answer.{packed, bare}
-use Rattle.same.proofs.Packs.{sound-number, unsound-number}
+use Rattle.answers.specs.Answer.{packed, bare}
+use Rattle.answers.proofs.Packs.{sound-number, unsound-number}
 use borrow.Author.Needs.{needs}
 use Rattle.same.proofs.same_good.Statement.{statement}
 use Rattle.same.proofs.same_good.Tie as tie

@@ -13,7 +13,7 @@ yes-requires : tie.Need-yes-requires
 yes-requires c κs = search needs
 
 returns : tie.Need-returns
-returns c = record { says = c .yes .ensures ∙ ap one (c .before .is-listed .ensures .says) }
+returns c = record { says = c .yes .ensures .says ∙ ap one (c .before .is-listed .ensures .says) }
 
 pub same-listed-spec : {M : Type 1} → statement M
 same-listed-spec = tie.close (tie.spec is-listed-requires yes-requires returns)

@@ -1,8 +1,8 @@
 -- `same::same_load` meets its contract. Assumes nothing.
 use mathlib.Core.Path.{_≡_, refl, sym, ap, _∙_}
 use Prim.Native.Nat.{ℕ}
-use Rattle.same.specs.Answer.{packed, bare}
-use Rattle.same.proofs.Packs.{bare-again}
+use Rattle.answers.specs.Answer.{packed, bare}
+use Rattle.answers.proofs.Packs.{bare-again}
 use Rattle.rules.specs.Form.{plain}
 use Rattle.rules.specs.Load.{loadSays}
 use borrow.Author.Needs.{needs}
@@ -19,7 +19,7 @@ same-length : tie.Need-same-length
 same-length c = search needs
 
 returns : tie.Need-returns
-returns c = record { says = c .edited .ensures ∙ ap (λ s. packed (bare s)) (c .before .before .before .load .ensures .says) ∙ ap packed (bare-again (loadSays plain _ _)); space = c .before .before .before .load .ensures .lent }
+returns c = record { says = c .edited .ensures .says ∙ ap (λ s. packed (bare s)) (c .before .before .before .load .ensures .says) ∙ ap packed (bare-again (loadSays plain _ _)); space = c .before .before .before .load .ensures .lent }
 
 pub same-load-spec : {M : Type 1} → statement M
 same-load-spec = tie.close (tie.spec load-requires edited-requires same-length returns)

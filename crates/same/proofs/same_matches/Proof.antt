@@ -13,7 +13,7 @@ yes-requires : tie.Need-yes-requires
 yes-requires c κs = search needs
 
 returns : tie.Need-returns
-returns c = record { says = c .yes .ensures ∙ ap one (c .before .matches .ensures .says) }
+returns c = record { says = c .yes .ensures .says ∙ ap one (c .before .matches .ensures .says) }
 
 pub same-matches-spec : {M : Type 1} → statement M
 same-matches-spec = tie.close (tie.spec matches-requires yes-requires returns)

@@ -1,18 +1,10 @@
--- `same::same_report` meets its contract. Assumes nothing.
-use native.Mathlib.Omega.{arith}
-use Rattle.same.proofs.Reported.{few-promise, all-promise}
+-- `same::same_report` meets its contract: it is the call of crate words. Assumes nothing.
 use borrow.Author.Needs.{needs}
 use Rattle.same.proofs.same_report.Statement.{statement}
 use Rattle.same.proofs.same_report.Tie as tie
 
-report-blind-requires : tie.Need-report-blind-requires
-report-blind-requires c κs = search needs
-
-returns : tie.Need-returns
-returns c = few-promise _ _ _ _ _ _ _ (omega arith) (c .report-blind .ensures)
-
-report-both-requires : tie.Need-report-both-requires
-report-both-requires c κs = search needs
+report-words-requires : tie.Need-report-words-requires
+report-words-requires c κs = search needs
 
 same-length : tie.Need-same-length
 same-length c = search needs
@@ -20,18 +12,8 @@ same-length c = search needs
 same-length-2 : tie.Need-same-length-2
 same-length-2 c = search needs
 
-returns-2 : tie.Need-returns-2
-returns-2 c =
-    let a = c .before .before .before .before .before .before .before .before .before .before .before .before .args in
-    all-promise _ _ _ _ (a .summary .now) (a .hits .now) _ _ _ (omega arith) (c .before .before .before .before .report-both .ensures)
+returns : tie.Need-returns
+returns c = c .before .before .before .before .report-words .ensures
 
 pub same-report-spec : {M : Type 1} → statement M
-same-report-spec =
-    tie.close
-    (tie.spec
-    report-blind-requires
-    returns
-    report-both-requires
-    same-length
-    same-length-2
-    returns-2)
+same-report-spec = tie.close (tie.spec report-words-requires same-length same-length-2 returns)

@@ -3,8 +3,8 @@ use mathlib.Core.Path.{_≡_, refl, sym, ap, _∙_}
 use Prim.Native.Nat.{ℕ}
 use Rattle.burst.specs.Strip.{lead}
 use Rattle.laws.specs.Order.{granted}
-use Rattle.same.specs.Answer.{packed, bare}
-use Rattle.same.proofs.Packs.{packs-granted}
+use Rattle.answers.specs.Answer.{packed, bare}
+use Rattle.answers.proofs.Packs.{packs-granted}
 use borrow.Author.Needs.{needs}
 use Rattle.same.proofs.same_strip.Statement.{statement}
 use Rattle.same.proofs.same_strip.Tie as tie
@@ -16,7 +16,7 @@ answer-requires : tie.Need-answer-requires
 answer-requires c κs = search needs
 
 returns : tie.Need-returns
-returns c = record { says = packs-granted _ _ (c .answer .ensures) ∙ ap (λ n. packed (granted n)) (c .before .leading .ensures .says) }
+returns c = record { says = packs-granted _ _ (c .answer .ensures .says) ∙ ap (λ n. packed (granted n)) (c .before .leading .ensures .says) }
 
 pub same-strip-spec : {M : Type 1} → statement M
 same-strip-spec = tie.close (tie.spec leading-requires answer-requires returns)

@@ -1,39 +1,16 @@
--- `same::same_write` meets its contract. Assumes nothing.
-use native.Mathlib.Omega.{arith}
-use Rattle.same.proofs.Pastes.{writes-few, writes-all}
+-- `same::same_write` meets its contract: it is the call of crate words. Assumes nothing.
 use borrow.Author.Needs.{needs}
 use Rattle.same.proofs.same_write.Statement.{statement}
 use Rattle.same.proofs.same_write.Tie as tie
 
-answer-requires : tie.Need-answer-requires
-answer-requires c κs = search needs
-
-returns : tie.Need-returns
-returns c = writes-few _ _ _ (omega arith) (c .answer .ensures)
-
-fields-in-requires : tie.Need-fields-in-requires
-fields-in-requires c κs = search needs
-
-write-requires : tie.Need-write-requires
-write-requires c κs = search needs
-
-wrote-requires : tie.Need-wrote-requires
-wrote-requires c κs = search needs
+write-words-requires : tie.Need-write-words-requires
+write-words-requires c κs = search needs
 
 same-length : tie.Need-same-length
 same-length c = search needs
 
-returns-2 : tie.Need-returns-2
-returns-2 c = writes-all (c .before .before .before .before .before .before .before .before .before .args .fields .now) (c .before .before .before .before .before .before .before .before .before .args .out .now) _ _ (omega arith) (c .before .before .before .before .before .fields-in .ensures) (c .before .before .before .write .ensures) (c .wrote .ensures)
+returns : tie.Need-returns
+returns c = c .before .before .write-words .ensures
 
 pub same-write-spec : {M : Type 1} → statement M
-same-write-spec =
-    tie.close
-    (tie.spec
-    answer-requires
-    returns
-    fields-in-requires
-    write-requires
-    wrote-requires
-    same-length
-    returns-2)
+same-write-spec = tie.close (tie.spec write-words-requires same-length returns)

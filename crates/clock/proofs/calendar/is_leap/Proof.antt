@@ -1,0 +1,10 @@
+-- `clock::calendar::is_leap` meets its contract. Assumes nothing.
+use mathlib.Core.Path.{refl}
+use Rattle.clock.proofs.calendar.is_leap.Statement.{statement}
+use Rattle.clock.proofs.calendar.is_leap.Tie as tie
+
+returns : tie.Need-returns
+returns c = refl
+
+pub is-leap-spec : {M : Type 1} → statement M
+is-leap-spec = tie.close (tie.spec returns)

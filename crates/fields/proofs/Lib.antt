@@ -1,0 +1,3 @@
+pub mod Marks
+pub mod Numbers
+pub mod NoChoice

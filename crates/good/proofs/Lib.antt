@@ -1,0 +1,4 @@
+pub mod Told
+pub mod Rises
+pub mod Zeros
+pub mod NoChoice

@@ -1,0 +1,3 @@
+pub mod Each
+pub mod HitsLeft
+pub mod NoChoice

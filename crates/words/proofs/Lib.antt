@@ -1,0 +1,4 @@
+pub mod Filled
+pub mod Pastes
+pub mod Reported
+pub mod NoChoice

@@ -1,0 +1,4 @@
+pub mod Words
+pub mod Says
+pub mod Promise
+pub mod Steps
