@@ -1,6 +1,4 @@
-/* Three damaged bursts become one text; two subscriptions become hits. From the root of the repository:
- *   rt staticlib same
- *   gcc -O2 -Iinclude examples/c/votes.c target/staticlib/libsame.a -o target/votes && target/votes */
+/* Three damaged bursts become one text; two subscriptions become hits. examples/c/run builds and runs this. */
 #include "same.h"
 
 #include <stdio.h>

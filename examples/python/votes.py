@@ -1,8 +1,8 @@
-"""Three damaged bursts become one text; two subscriptions become hits. By ctypes, from the root of the repository:
+"""Three damaged bursts become one text; two subscriptions become hits. By ctypes:
 
-    rt staticlib same
-    gcc -shared -Wl,--whole-archive target/staticlib/libsame.a -Wl,--no-whole-archive -o target/libsame.so
-    python3 examples/python/votes.py target/libsame.so
+    python3 votes.py LIBRARY
+
+LIBRARY is the shared object. examples/python/run makes it for this machine and runs this.
 """
 import ctypes
 import sys
@@ -46,7 +46,12 @@ def receive(damaged):
     return lent_bytes(b"\xab" * 16 + text)
 
 
-same = ctypes.CDLL(sys.argv[1])
+if len(sys.argv) != 2:
+    sys.exit("usage: python3 votes.py LIBRARY   (examples/python/run makes the library and runs this)")
+try:
+    same = ctypes.CDLL(sys.argv[1])
+except OSError as why:
+    sys.exit(f"votes.py: {why}")
 vote = declare("same_vote", BYTES, SIZE, BYTES, SIZE, BYTES, SIZE, BYTES, SIZE)
 read = declare("same_read", BYTES, SIZE, WORDS, SIZE)
 add = declare("same_add", WORDS, SIZE, WORD, WORD, WORD)

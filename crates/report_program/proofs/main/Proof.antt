@@ -1,48 +1,44 @@
--- `report_program::main` is safe and ends. Assumes nothing.
-use Prim.Native.Nat.{ℕ}
-use mathlib.Core.Path.{sym}
-use native.Mathlib.Omega.{arith}
-use lib.ListN.{length-replicate}
+-- What was read lies inside the space, so it can be lent.
+use Prim.Native.Nat.{_≤_}
+use mathlib.Core.Path.{sym, subst}
+use lib.ListN.{length}
 use lib.Seq.{length-take-le}
+use Rattle.report_program.specs.Reading.{Within}
 use borrow.Author.Needs.{needs}
 use Rattle.report_program.proofs.main.Statement.{statement}
 use Rattle.report_program.proofs.main.Tie as tie
 
-slice-aggregate-read-full : tie.Need-slice-aggregate-read-full
-slice-aggregate-read-full c = search needs
+inside : (c : tie.After-known-told) → c .before .input .given .0 .0 ≤ length (c .before .before .before .before .read-input .last .0)
+inside c =
+    let called = c .before .before .before .before .read-input in
+    subst (Within (length (called .last .0))) (c .before .input .given .1) (called .ensures)
 
-read-full-requires : tie.Need-read-full-requires
-read-full-requires c κs = search needs
+slice-aggregate-read-input : tie.Need-slice-aggregate-read-input
+slice-aggregate-read-input c = search needs
 
-array-share-prefix-input : tie.Need-array-share-prefix-input
-array-share-prefix-input c = search needs
+read-input-requires : tie.Need-read-input-requires
+read-input-requires c κs = search needs
 
-slice-aggregate-page : tie.Need-slice-aggregate-page
-slice-aggregate-page c = search needs
+enum-known-input : tie.Need-enum-known-input
+enum-known-input c = search needs
 
-slice-aggregate-page-2 : tie.Need-slice-aggregate-page-2
-slice-aggregate-page-2 c = search needs
-
-page-requires : tie.Need-page-requires
-page-requires c κs = search needs
-
-enum-known-answer : tie.Need-enum-known-answer
-enum-known-answer c = search needs
-
-enum-told : tie.Need-enum-told
-enum-told c = search needs
+say-unread-requires : tie.Need-say-unread-requires
+say-unread-requires c κs = search needs
 
 returns : tie.Need-returns
 returns c = search needs
 
-array-share-prefix-out : tie.Need-array-share-prefix-out
-array-share-prefix-out c = search needs
+array-share-prefix-space : tie.Need-array-share-prefix-space
+array-share-prefix-space c = inside c
 
-slice-aggregate-write-all : tie.Need-slice-aggregate-write-all
-slice-aggregate-write-all c = sym (length-take-le _ _ (omega (arith, c .before .before .before .before .before .before .page .kept, length-replicate {A = ℕ} 65536 0)))
+slice-aggregate-write-page : tie.Need-slice-aggregate-write-page
+slice-aggregate-write-page c = sym (length-take-le _ _ (inside (c .before)))
 
-write-all-requires : tie.Need-write-all-requires
-write-all-requires c κs = search needs
+write-page-requires : tie.Need-write-page-requires
+write-page-requires c κs = search needs
+
+say-unwritten-requires : tie.Need-say-unwritten-requires
+say-unwritten-requires c κs = search needs
 
 returns-2 : tie.Need-returns-2
 returns-2 c = search needs
@@ -54,17 +50,14 @@ pub main-spec : {M : Type 1} → statement M
 main-spec =
     tie.close
     (tie.spec
-    slice-aggregate-read-full
-    read-full-requires
-    array-share-prefix-input
-    slice-aggregate-page
-    slice-aggregate-page-2
-    page-requires
-    enum-known-answer
-    enum-told
+    slice-aggregate-read-input
+    read-input-requires
+    enum-known-input
+    say-unread-requires
     returns
-    array-share-prefix-out
-    slice-aggregate-write-all
-    write-all-requires
+    array-share-prefix-space
+    slice-aggregate-write-page
+    write-page-requires
+    say-unwritten-requires
     returns-2
     returns-3)
