@@ -195,7 +195,7 @@ uint64_t same_remove(uint32_t *book, size_t words, uint32_t place, uint32_t clie
 /* Builds the book afresh from n words of items, three an item: place, client, wish. One or two words left over are not
  * read. Numbers in order: 16 for the old book; then, item by item from the first, what same_add would say of it
  * (17, 18, 19, 20, 22). No index is named. The old book is judged, so a new array is filled with zeros first.
- * Granted: the book has the items and nothing else; with no whole item it is empty. Stack: 115 KB. */
+ * Granted: the book has the items and nothing else; with no whole item it is empty. Stack: 33 KB. */
 uint64_t same_load(uint32_t *book, size_t words, const uint32_t *items, size_t n);
 
 /* One client's report on a header, by a clock.
@@ -204,7 +204,7 @@ uint64_t same_load(uint32_t *book, size_t words, const uint32_t *items, size_t n
  * Granted: summary[0 .. 15] as laid out above, and hits[0 .. 2 * count - 1], two words for each hit, place and wish, in
  * order of state, county, part. A hit is a subscription of this client whose place matches one of the header's and
  * whose wish has the event's class. Early and expired headers have hits all the same. The end may lie in the next year.
- * High half: how many hits, which may be 0. Stack: 2 KB. */
+ * High half: how many hits, which may be 0. Stack: 3 KB. */
 uint64_t same_report(const uint32_t *book, size_t words, uint32_t client, const uint8_t *header, size_t n,
                      uint32_t year, uint32_t day, uint32_t hour, uint32_t minute, uint32_t *summary,
                      size_t summary_words, uint32_t *hits, size_t hit_words);
@@ -230,7 +230,7 @@ uint64_t same_report(const uint32_t *book, size_t words, uint32_t client, const 
  * its form first (23), and each sub= line is added as it comes (17, 18, 19, 20, 22); then the report is made (17, the
  * header's 4 to 12, 15, 14). The first of these numbers is the one printed.
  * Numbers: 13 if room is less than the page. SAME_PAGE_BYTES are always enough.
- * Granted: out[0 .. length-1] is the page. High half: the length. Stack: 198 KB. */
+ * Granted: out[0 .. length-1] is the page. High half: the length. Stack: 114 KB. */
 uint64_t same_page(const uint8_t *in, size_t n, uint8_t *out, size_t room);
 
 #ifdef __cplusplus

@@ -30,7 +30,7 @@ use Rattle.rules.specs.Afresh.{subs}
 use Rattle.rules.specs.Load.{Sub, items, addAll, loadSays}
 use Rattle.header.specs.Reading.{readSays}
 use Rattle.report.specs.Hits.{hitsOf}
-use Rattle.records.proofs.NoChoice.{bad-client-no-choice, bad-wish-no-choice, client-of-no-choice, wish-of-no-choice, rank-of-no-choice, rank-or-none-no-choice}
+use Rattle.records.proofs.NoChoice.{bad-client-no-choice, bad-wish-no-choice, client-of-no-choice, wish-of-no-choice, mark-or-none-no-choice, rank-of-no-choice, rank-or-none-no-choice}
 use Rattle.good.proofs.NoChoice.{is-good-no-choice}
 use Rattle.moves.proofs.NoChoice.{open-no-choice, close-no-choice}
 use Rattle.sorting.proofs.NoChoice.{sort-no-choice}
@@ -93,6 +93,7 @@ every-call = record {
   bad-wish = bad-wish-no-choice;
   client-of = client-of-no-choice;
   wish-of = wish-of-no-choice;
+  mark-or-none = mark-or-none-no-choice;
   rank-of = rank-of-no-choice;
   rank-or-none = rank-or-none-no-choice;
   open-two = open-no-choice;

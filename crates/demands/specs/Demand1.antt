@@ -38,7 +38,7 @@ use Rattle.rules.specs.Edits.{stands, full, addSays, removeSays}
 use Rattle.rules.specs.Load.{loadSays, addAll, items}
 use Rattle.rules.specs.Afresh.{subs}
 use Rattle.book.specs.Answer.{said as saidEdit}
-use Rattle.records.specs.Promise.{BadClientPromise, BadWishPromise, ClientOfPromise, WishOfPromise, RankOfPromise, RankOrNonePromise}
+use Rattle.records.specs.Promise.{BadClientPromise, BadWishPromise, ClientOfPromise, WishOfPromise, MarkOrNonePromise, RankOfPromise, RankOrNonePromise}
 use Rattle.good.specs.Promise.{IsGoodPromise}
 use Rattle.moves.specs.Promise.{OpenPromise, ClosePromise}
 use Rattle.sorting.specs.Promise.{SortPromise}
@@ -112,6 +112,7 @@ pub record EveryCall : Type 0 where
   pub bad-wish : (wish : ℕ) → LeavesNoChoice (BadWishPromise wish)
   pub client-of : (mark : ℕ) → LeavesNoChoice (ClientOfPromise mark)
   pub wish-of : (mark : ℕ) → LeavesNoChoice (WishOfPromise mark)
+  pub mark-or-none : (client wish : ℕ) → LeavesNoChoice (MarkOrNonePromise client wish)
   pub rank-of : (first client : ℕ) → LeavesNoChoice (RankOfPromise first client)
   pub rank-or-none : (first second : ℕ) → LeavesNoChoice (RankOrNonePromise first second)
   pub open-two : (words : List ℕ) (at end x y : ℕ) → LeavesNoChoice (OpenPromise words at end x y)

@@ -1,3 +1,6 @@
 pub mod Keys
+pub mod Below
+pub mod Written
+pub mod Laid
 pub mod Loads
 pub mod NoChoice

@@ -4,6 +4,7 @@ use mathlib.Core.Bool.{Bool}
 use mathlib.Core.Path.{_≡_}
 use Rattle.rules.specs.Form.{plain, badClient, badWish}
 use Rattle.records.specs.Ranks.{rankOrNone}
+use Rattle.records.specs.Marks.{markOrNone}
 
 pub record BadClientPromise (client : ℕ) (r : Bool) : Type 0 where
   pub says : r ≡ badClient client
@@ -16,6 +17,9 @@ pub record ClientOfPromise (mark r : ℕ) : Type 0 where
 
 pub record WishOfPromise (mark r : ℕ) : Type 0 where
   pub says : r ≡ plain .wish mark
+
+pub record MarkOrNonePromise (client wish r : ℕ) : Type 0 where
+  pub says : r ≡ markOrNone client wish
 
 -- a client of a book is below 10,000
 pub record RankOfPromise (first client r : ℕ) : Type 0 where

@@ -3,7 +3,7 @@ ghost use mathlib.Core.Path.{_≡_};
 ghost use Prim.Native.Nat.{ℕ, _+_, _*_};
 ghost use Rattle.rules.specs.Form.{plain};
 ghost use Rattle.rules.specs.Rules.{okRec};
-ghost use Rattle.records.specs.Promise.{BadClientPromise, BadWishPromise, ClientOfPromise, WishOfPromise, RankOfPromise, RankOrNonePromise};
+ghost use Rattle.records.specs.Promise.{BadClientPromise, BadWishPromise, ClientOfPromise, WishOfPromise, MarkOrNonePromise, RankOfPromise, RankOrNonePromise};
 
 // Whether a client is out of range.
 pub fn bad_client(client: u32) -> bool
@@ -37,6 +37,19 @@ pub fn wish_of(mark: u32) -> u32
     ensures { λ r. ⌜ WishOfPromise mark r ⌝ }
 {
     mark % 64
+}
+
+// The second word of a client and a wish; 0, which no record has, where one of them is out of range.
+pub fn mark_or_none(client: u32, wish: u32) -> u32
+    ensures { λ r. ⌜ MarkOrNonePromise client wish r ⌝ }
+{
+    if bad_client(client) {
+        return 0;
+    }
+    if bad_wish(wish) {
+        return 0;
+    }
+    client * 64 + wish
 }
 
 // Widens a word.
