@@ -25,7 +25,7 @@
  *   Each pointer comes with its length: bytes for uint8_t, words for uint32_t, which are aligned to 4 bytes. Space that
  *   a call writes overlaps no other space lent to the same call.
  *   A pointer is not NULL, also where the length is 0: what is proved of the calls is proved of stretches of memory, an
- *   empty one has an address too, and NULL is none. Any address will do for an empty one; nothing is read there.
+ *   empty one has an address too, and NULL is none. Any aligned address will do for it; nothing is read there.
  *   Nothing else is asked: every length and every content has an answer.
  *
  * Stack
@@ -86,7 +86,7 @@
  *   13  the lent space is smaller than the result
  *   14  the header's day is 366, and the clock's year has no such day
  *   15  the clock is not year 1996 to 2099, a day of that year, hour 0 to 23, minute 0 to 59
- *   16  the book has another length or breaks a rule
+ *   16  the book has not 8,293 words or breaks a rule
  *   17  the client is not 1 to 9,999
  *   18  the place is over 999,999 or its state is 00
  *   19  the wish is not 1 to 63
@@ -131,7 +131,7 @@ extern "C" {
 #define SAME_LISTED 11 /* 1 listed, 0 not */
 #define SAME_CLASS 12  /* 0 to 6 */
 #define SAME_STATE 13  /* 0 early, 1 live, 2 expired */
-#define SAME_HITS 14   /* how many subscriptions match */
+#define SAME_HITS 14   /* how many hits */
                        /* word 15 is 0 */
 
 /* The two halves of an answer. */
@@ -153,8 +153,9 @@ uint64_t same_vote(const uint8_t *a, size_t na, const uint8_t *b, size_t nb, con
                    uint8_t *out, size_t room);
 
 /* Reads a header text into its fields.
- * Numbers in order: 4 with index 252; 5 to 12 with the index of the field's first byte (8: of that place's, 12: of the
- * leftover), which is n where the text ends there; 13, with no index, if words is under SAME_FIELD_WORDS.
+ * Numbers in order: 4 with index 252; 5 to 12 with the index of the field's first byte (8: of the first place that is
+ * wrong or too many, 12: of the leftover), which is n where the text ends there; 13, with no index, if words is under
+ * SAME_FIELD_WORDS.
  * Granted: fields[0 .. 49] are all written, places behind the last are 0. High half: how many places.
  * A day 366 is read in any year. */
 uint64_t same_read(const uint8_t *text, size_t n, uint32_t *fields, size_t words);
@@ -177,7 +178,7 @@ uint32_t same_listed(uint8_t first, uint8_t second, uint8_t third);
 uint32_t same_class(uint8_t first, uint8_t second, uint8_t third);
 
 /* 1 if the watched place matches the place sent, else 0. They match if the states are equal, the counties are equal or
- * one is 000, and the parts are equal or one is 0. Two places of state 00 do so too, though no book has such a place.
+ * one is 000, and the parts are equal or one is 0. Two places of state 00 may match so, though no book has one of them.
  * Any two words have an answer: of a code, the county is code % 1000, the state code / 1000 % 100 and the part
  * code / 100000, whatever that gives. */
 uint32_t same_matches(uint32_t watched, uint32_t sent);
@@ -194,7 +195,7 @@ uint64_t same_remove(uint32_t *book, size_t words, uint32_t place, uint32_t clie
 
 /* Builds the book afresh from n words of items, three an item: place, client, wish. One or two words left over are not
  * read. Numbers in order: 16 for the old book; then, item by item from the first, what same_add would say of it
- * (17, 18, 19, 20, 22). No index is named. The old book is judged, so a new array is filled with zeros first.
+ * (17, 18, 19, 20, 22). No index is named. The old book is judged, so fill a new array with zeros first.
  * Granted: the book has the items and nothing else; with no whole item it is empty. Stack: 33 KB. */
 uint64_t same_load(uint32_t *book, size_t words, const uint32_t *items, size_t n);
 
