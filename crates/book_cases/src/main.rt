@@ -2,7 +2,7 @@
 ghost use mathlib.Core.Path.{_≡_};
 ghost use Prim.Native.Nat.{_<_, _≤_};
 ghost use lib.ListN.{length};
-use book::Edited;
+use book_edits::Edited;
 use libc::STDOUT_FILENO;
 
 // What a row of the table says: what to do, and its numbers.
@@ -139,7 +139,7 @@ fn add_short(book: &mut [u32], place: u32, client: u32, wish: u32) -> u32 {
         return 0;
     }
     let last = book.len() - 1;
-    number_of(book::add(&mut book[..last], place, client, wish))
+    number_of(book_edits::add(&mut book[..last], place, client, wish))
 }
 
 // A load of some words of ITEMS.
@@ -151,7 +151,7 @@ fn load_items(book: &mut [u32], from: usize, to: usize) -> u32 {
     if to < from {
         return 0;
     }
-    number_of(loads::load(book, &items[from..to]))
+    number_of(book_loads::load(book, &items[from..to]))
 }
 
 // Row i of the table.
@@ -164,8 +164,8 @@ fn row(i: usize) -> [u32; 4]
 // Does what a row says, and answers its number.
 fn done(book: &mut [u32], kind: u32, a: u32, b: u32, c: u32) -> u32 {
     match kind {
-        0 => number_of(book::add(book, a, b, c)),
-        1 => number_of(book::remove(book, a, b)),
+        0 => number_of(book_edits::add(book, a, b, c)),
+        1 => number_of(book_edits::remove(book, a, b)),
         2 => poke(book, a as usize, b),
         3 => add_short(book, a, b, c),
         _ => load_items(book, a as usize, b as usize),
@@ -191,7 +191,7 @@ fn print_then(n: u32, mark: &[u8]) {
 
 // Prints what is to be seen of a book.
 fn print_book(book: &[u32]) {
-    if good::is_good(book) {
+    if book_check::is_good(book) {
         io::write_all(STDOUT_FILENO, b", good, sum ");
     } else {
         io::write_all(STDOUT_FILENO, b", bad, sum ");
@@ -235,7 +235,7 @@ fn fill(book: &mut [u32]) -> u32 {
     let mut i: u32 = 4096;
     while 0 < i {
         i -= 1;
-        if number_of(book::add(book, place_by(i), 1 + i % 9999, 1 + i % 63)) == 0 {
+        if number_of(book_edits::add(book, place_by(i), 1 + i % 9999, 1 + i % 63)) == 0 {
             count += 1;
         }
     }
@@ -247,7 +247,7 @@ fn empty(book: &mut [u32]) -> u32 {
     let mut count: u32 = 0;
     let mut i: u32 = 0;
     while i < 4096 {
-        if number_of(book::remove(book, place_by(i), 1 + i % 9999)) == 0 {
+        if number_of(book_edits::remove(book, place_by(i), 1 + i % 9999)) == 0 {
             count += 1;
         }
         i += 1;
@@ -275,7 +275,7 @@ fn load_all(book: &mut [u32], wish: u32) -> u32 {
     let mut items = [0u32; 12288];
     list_all(&mut items);
     items[12287] = wish;
-    number_of(loads::load(book, &items))
+    number_of(book_loads::load(book, &items))
 }
 
 // Does and prints such a load.

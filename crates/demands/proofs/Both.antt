@@ -9,8 +9,8 @@ use Rattle.header.specs.Reading.{readSays}
 use Rattle.clock.specs.Clock.{hasDay, isClock}
 use Rattle.clock.specs.Lifetime.{yearOf}
 use Rattle.clock.specs.declared.Clock.{Clock}
-use Rattle.rules.specs.Form.{plain, badClient}
-use Rattle.rules.specs.Rules.{good}
+use Rattle.book_rules.specs.Form.{plain, badClient}
+use Rattle.book_rules.specs.Rules.{good}
 use Rattle.report.specs.Report.{alertSays, listSays, reportSays}
 use Rattle.burst.proofs.Cases.{text-52, empty-2, clash-3}
 use Rattle.header.proofs.Cases.{d0130, d0115, d0000, d9930}

@@ -5,14 +5,14 @@ use mathlib.Core.Bool.{Bool, true, false, not}
 use Prim.Native.Nat.{ℕ}
 use Rattle.laws.specs.Order.{Said, granted, refused, refusedAt, choose}
 use Rattle.place.specs.FirstWord.{badPlace}
-use Rattle.rules.specs.Form.{plain, badClient, badWish}
-use Rattle.rules.specs.Rules.{good, recs}
-use Rattle.rules.specs.Edits.{stands, full, addSays, removeSays}
-use Rattle.rules.specs.History.{Edit, adds, removes, edited, after}
-use Rattle.book.specs.Promise.{AddPromise, RemovePromise}
-use Rattle.book.specs.Answer.{said}
-use Rattle.book.specs.declared.Edited.{Edited}
-use Rattle.book.specs.declared.Edited.the-variants.{Done, Refused}
+use Rattle.book_rules.specs.Form.{plain, badClient, badWish}
+use Rattle.book_rules.specs.Rules.{good, recs}
+use Rattle.book_rules.specs.Edits.{stands, full, addSays, removeSays}
+use Rattle.book_rules.specs.History.{Edit, adds, removes, edited, after}
+use Rattle.book_edits.specs.Promise.{AddPromise, RemovePromise}
+use Rattle.book_edits.specs.Answer.{said}
+use Rattle.book_edits.specs.declared.Edited.{Edited}
+use Rattle.book_edits.specs.declared.Edited.the-variants.{Done, Refused}
 use Rattle.demands.specs.Calls.{Called, none, add, remove}
 
 pub add-edits : {w u : List ℕ} {place client wish : ℕ} {r : Edited} → AddPromise w place client wish r u → u ≡ edited plain w (adds place client wish)

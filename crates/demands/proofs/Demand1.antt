@@ -15,7 +15,7 @@ use Rattle.header.specs.Header.{Alert, isOrigin, isEvent, isIssue, isSender, is
 use Rattle.header.specs.Writing.{writeSays}
 use Rattle.header.proofs.Allowed.{issue-ok}
 use Rattle.header.proofs.NoChoice.{read-no-choice, write-no-choice, is-issue-no-choice, is-duration-no-choice, is-origin-no-choice, is-event-no-choice, is-sender-no-choice, is-written-no-choice, read-refusal-writes-nothing, write-refusal-writes-nothing}
-use Rattle.fields.proofs.NoChoice.{stands-no-choice, place-at-no-choice, minutes-at-no-choice, issue-at-no-choice}
+use Rattle.header_fields.proofs.NoChoice.{stands-no-choice, place-at-no-choice, minutes-at-no-choice, issue-at-no-choice}
 use Rattle.header.proofs.Stopping.{read-stops, stops-read, table-stops, stops-table}
 use Rattle.event.proofs.NoChoice.{is-listed-no-choice, class-of-no-choice, kind-of-no-choice}
 use Rattle.place.proofs.NoChoice.{matches-no-choice, matches-some-no-choice, first-word-no-choice, place-of-no-choice, bad-place-no-choice, pack-no-choice, pack-places-no-choice, packed-match-some-no-choice}
@@ -23,30 +23,30 @@ use Rattle.clock.specs.Clock.{hasDay, isClock}
 use Rattle.clock.specs.Lifetime.{yearOf, lifetimeOf, timesOf}
 use Rattle.clock.specs.Answers.{clockSays, dateSays, asked, lifetimeSays, timesSays}
 use Rattle.clock.proofs.NoChoice.{check-no-choice, date-of-no-choice, lifetime-no-choice, times-of-no-choice}
-use Rattle.rules.specs.Edits.{addSays, added, removeSays}
-use Rattle.rules.specs.Form.{plain}
-use Rattle.rules.specs.Rules.{empty}
-use Rattle.rules.specs.Afresh.{subs}
-use Rattle.rules.specs.Load.{Sub, items, addAll, loadSays}
+use Rattle.book_rules.specs.Edits.{addSays, added, removeSays}
+use Rattle.book_rules.specs.Form.{plain}
+use Rattle.book_rules.specs.Rules.{empty}
+use Rattle.book_rules.specs.Afresh.{subs}
+use Rattle.book_rules.specs.Load.{Sub, items, addAll, loadSays}
 use Rattle.header.specs.Reading.{readSays}
 use Rattle.report.specs.Hits.{hitsOf}
-use Rattle.records.proofs.NoChoice.{bad-client-no-choice, bad-wish-no-choice, client-of-no-choice, wish-of-no-choice, mark-or-none-no-choice, rank-of-no-choice, rank-or-none-no-choice}
-use Rattle.good.proofs.NoChoice.{is-good-no-choice}
-use Rattle.moves.proofs.NoChoice.{open-no-choice, close-no-choice}
+use Rattle.book_records.proofs.NoChoice.{bad-client-no-choice, bad-wish-no-choice, client-of-no-choice, wish-of-no-choice, mark-or-none-no-choice, rank-of-no-choice, rank-or-none-no-choice}
+use Rattle.book_check.proofs.NoChoice.{is-good-no-choice}
+use Rattle.book_shifts.proofs.NoChoice.{open-no-choice, close-no-choice}
 use Rattle.sorting.proofs.NoChoice.{sort-no-choice}
-use Rattle.book.proofs.NoChoice.{add-no-choice, remove-no-choice, add-each-no-choice, add-refusal-writes-nothing, remove-refusal-writes-nothing}
-use Rattle.loads.proofs.NoChoice.{load-no-choice, load-refusal-writes-nothing}
+use Rattle.book_edits.proofs.NoChoice.{add-no-choice, remove-no-choice, add-each-no-choice, add-refusal-writes-nothing, remove-refusal-writes-nothing}
+use Rattle.book_loads.proofs.NoChoice.{load-no-choice, load-refusal-writes-nothing}
 use Rattle.clock.specs.declared.Clock.{Clock}
 use Rattle.report.specs.Report.{Full, alertSays, listSays, reportSays}
 use Rattle.report.specs.Answers.{verdictOf, answerOf}
 use Rattle.report.specs.Promise.{ReportPromise}
 use Rattle.report.specs.declared.Answer.{Answer}
 use Rattle.report.proofs.NoChoice.{report-no-choice, report-refusal-writes-nothing}
-use Rattle.lines.proofs.NoChoice.{now-line-no-choice, client-line-no-choice, header-line-no-choice, sub-line-no-choice}
+use Rattle.input_lines.proofs.NoChoice.{now-line-no-choice, client-line-no-choice, header-line-no-choice, sub-line-no-choice}
 use Rattle.page_lines.proofs.NoChoice.{size-of-no-choice, parts-no-choice}
-use Rattle.answers.proofs.NoChoice.{cap-no-choice, answer-no-choice, voted-no-choice, edited-no-choice, printed-no-choice, wrote-no-choice, yes-no-choice}
-use Rattle.printing.specs.Promise.{printSays}
-use Rattle.printing.proofs.NoChoice.{print-no-choice, print-refusal-writes-nothing}
+use Rattle.c_answers.proofs.NoChoice.{cap-no-choice, answer-no-choice, voted-no-choice, edited-no-choice, printed-no-choice, wrote-no-choice, yes-no-choice}
+use Rattle.page_printing.specs.Promise.{printSays}
+use Rattle.page_printing.proofs.NoChoice.{print-no-choice, print-refusal-writes-nothing}
 use Rattle.page.proofs.NoChoice.{page-no-choice, page-refusal-writes-nothing}
 use Rattle.demands.specs.Forms.{GoesBy, numbered}
 use Rattle.demands.specs.Demand1.{verdictSays, saidReport, EveryCall, EveryRefusal, EveryNumber, EveryNumbered, Demand1}

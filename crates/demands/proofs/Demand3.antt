@@ -13,12 +13,12 @@ use Rattle.header.specs.Reading.{readSays}
 use Rattle.clock.specs.Clock.{hasDay, isClock}
 use Rattle.clock.specs.Lifetime.{yearOf}
 use Rattle.clock.specs.declared.Clock.{Clock}
-use Rattle.rules.specs.Form.{plain, badClient}
-use Rattle.rules.specs.Rules.{empty}
-use Rattle.rules.specs.Load.{Sub}
-use Rattle.rules.specs.Afresh.{subs, Afresh}
-use Rattle.rules.specs.History.{Edit, answer, bookAfter, standingFrom, standing}
-use Rattle.history.proofs.Proved.{plain-book-and-history}
+use Rattle.book_rules.specs.Form.{plain, badClient}
+use Rattle.book_rules.specs.Rules.{empty}
+use Rattle.book_rules.specs.Load.{Sub}
+use Rattle.book_rules.specs.Afresh.{subs, Afresh}
+use Rattle.book_rules.specs.History.{Edit, answer, bookAfter, standingFrom, standing}
+use Rattle.book_history.proofs.Proved.{plain-book-and-history}
 use Rattle.report.specs.Hits.{isOf}
 use Rattle.report.specs.Report.{Full, summaryOf, reportSays}
 use Rattle.report.specs.Answers.{answerOf}

@@ -17,20 +17,20 @@ use Rattle.place.specs.Place.{matches, matchesSome}
 use Rattle.place.specs.FirstWord.{badPlace}
 use Rattle.clock.specs.Clock.{hasDay, isClock}
 use Rattle.clock.specs.Lifetime.{yearOf}
-use Rattle.rules.specs.Form.{plain, badClient, badWish}
-use Rattle.rules.specs.Rules.{empty}
-use Rattle.rules.specs.Load.{items, loadSays}
-use Rattle.rules.specs.Afresh.{Afresh}
-use Rattle.rules.specs.History.{Edit, adds, removes, answer, after, standsIn, fullOf, number, standingFrom, standing}
-use Rattle.rules.proofs.Form.{plain-laws}
-use Rattle.history.proofs.Run.{afresh-after}
-use Rattle.history.proofs.Proved.{plain-book-and-history}
-use Rattle.book.specs.Answer.{said as saidEdit}
-use Rattle.book.specs.Promise.{AddPromise, RemovePromise}
-use Rattle.loads.specs.Promise.{LoadPromise}
-use Rattle.book.specs.declared.Edited.{Edited}
-use Rattle.book.specs.declared.Edited.the-variants.{Done}
-use Rattle.book.proofs.Impostors.{adds-first, removes-last}
+use Rattle.book_rules.specs.Form.{plain, badClient, badWish}
+use Rattle.book_rules.specs.Rules.{empty}
+use Rattle.book_rules.specs.Load.{items, loadSays}
+use Rattle.book_rules.specs.Afresh.{Afresh}
+use Rattle.book_rules.specs.History.{Edit, adds, removes, answer, after, standsIn, fullOf, number, standingFrom, standing}
+use Rattle.book_rules.proofs.Form.{plain-laws}
+use Rattle.book_history.proofs.Run.{afresh-after}
+use Rattle.book_history.proofs.Proved.{plain-book-and-history}
+use Rattle.book_edits.specs.Answer.{said as saidEdit}
+use Rattle.book_edits.specs.Promise.{AddPromise, RemovePromise}
+use Rattle.book_loads.specs.Promise.{LoadPromise}
+use Rattle.book_edits.specs.declared.Edited.{Edited}
+use Rattle.book_edits.specs.declared.Edited.the-variants.{Done}
+use Rattle.book_edits.proofs.Impostors.{adds-first, removes-last}
 use Rattle.report.specs.Hits.{hasClass, matching, isHit}
 use Rattle.report.specs.Answers.{answerOf}
 use Rattle.report.specs.Exact.{wanted}

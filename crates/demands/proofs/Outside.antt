@@ -9,19 +9,19 @@ use Rattle.burst.specs.Vote.{voteSays}
 use Rattle.header.specs.Reading.{readSays}
 use Rattle.header.specs.Answers.{alertIn}
 use Rattle.header.specs.Writing.{writeSays}
-use Rattle.rules.specs.Form.{plain}
-use Rattle.rules.specs.Edits.{sound, addSays, removeSays}
-use Rattle.rules.specs.Load.{loadSays}
+use Rattle.book_rules.specs.Form.{plain}
+use Rattle.book_rules.specs.Edits.{sound, addSays, removeSays}
+use Rattle.book_rules.specs.Load.{loadSays}
 use Rattle.report.specs.Report.{reportSays}
-use Rattle.printing.specs.Promise.{printSays}
+use Rattle.page_printing.specs.Promise.{printSays}
 use Rattle.page.specs.Page.{pageOf}
-use Rattle.words.specs.Words.{fieldsIn}
-use Rattle.words.specs.Says.{enough, fieldsSay, textSays, summarySays}
+use Rattle.c_words.specs.Words.{fieldsIn}
+use Rattle.c_words.specs.Says.{enough, fieldsSay, textSays, summarySays}
 use Rattle.same.specs.Says.{stripSays, goodSays}
 use Rattle.laws.specs.Order.{Said, granted, refused, refusedAt, isRefusal, inOrder, next}
-use Rattle.answers.specs.Answer.{half, packed, numberIn, numberOf}
-use Rattle.answers.proofs.Packs.{halves}
-use Rattle.words.proofs.NoChoice.{read-no-choice, write-no-choice, report-no-choice, read-refusal-writes-nothing, write-refusal-writes-nothing, report-refusal-writes-nothing}
+use Rattle.c_answers.specs.Answer.{half, packed, numberIn, numberOf}
+use Rattle.c_answers.proofs.Packs.{halves}
+use Rattle.c_words.proofs.NoChoice.{read-no-choice, write-no-choice, report-no-choice, read-refusal-writes-nothing, write-refusal-writes-nothing, report-refusal-writes-nothing}
 use Rattle.same.proofs.NoChoice.{strip-no-choice, vote-no-choice, listed-no-choice, class-no-choice, matches-no-choice, good-no-choice, add-no-choice, remove-no-choice, load-no-choice, page-no-choice, vote-refusal-writes-nothing, add-refusal-writes-nothing, remove-refusal-writes-nothing, load-refusal-writes-nothing, page-refusal-writes-nothing}
 use Rattle.demands.specs.Forms.{numbered}
 use Rattle.demands.specs.Outside.{OutsideCall, OutsideRefusal, Tells, OutsideNumber}

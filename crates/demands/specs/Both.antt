@@ -16,8 +16,8 @@ use Rattle.place.specs.Place.{matches}
 use Rattle.clock.specs.Clock.{isClock}
 use Rattle.clock.specs.Answers.{dateSays, lifetimeSays, timesSays}
 use Rattle.clock.specs.declared.Clock.{Clock}
-use Rattle.rules.specs.Form.{plain, badClient}
-use Rattle.rules.specs.Rules.{good}
+use Rattle.book_rules.specs.Form.{plain, badClient}
+use Rattle.book_rules.specs.Rules.{good}
 use Rattle.report.specs.Report.{reportSays}
 use Rattle.header.specs.Samples.{lasting, lasts}
 

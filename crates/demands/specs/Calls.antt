@@ -1,9 +1,9 @@
 -- A run of calls on one book, each with the answer and the words that it left: what demand 3 speaks of.
 use Prim.Native.Nat.{ℕ}
 use mathlib.Core.List.{List, [], _∷_}
-use Rattle.rules.specs.History.{Edit, adds, removes}
-use Rattle.book.specs.Promise.{AddPromise, RemovePromise}
-use Rattle.book.specs.declared.Edited.{Edited}
+use Rattle.book_rules.specs.History.{Edit, adds, removes}
+use Rattle.book_edits.specs.Promise.{AddPromise, RemovePromise}
+use Rattle.book_edits.specs.declared.Edited.{Edited}
 
 -- a book that held w holds z after these additions and removals, whatever each answered
 pub data Called : List ℕ → List Edit → List ℕ → Type 0 where

@@ -21,7 +21,7 @@ use Rattle.header.specs.Writing.{writeSays}
 use Rattle.header.specs.Answers.{said as saidRead, saidWrote, noFields}
 use Rattle.header.specs.Promise.{ReadPromise, WritePromise, IsIssuePromise, IsDurationPromise, IsOriginPromise, IsEventPromise, IsSenderPromise, IsWrittenPromise}
 use Rattle.header.specs.declared.Fields.{Fields}
-use Rattle.fields.specs.Promise.{StandsPromise, PlaceAtPromise, MinutesAtPromise, IssueAtPromise}
+use Rattle.header_fields.specs.Promise.{StandsPromise, PlaceAtPromise, MinutesAtPromise, IssueAtPromise}
 use Rattle.header.specs.declared.Answer.{Answer as Read}
 use Rattle.event.specs.Promise.{ListedPromise, ClassPromise, KindPromise}
 use Rattle.place.specs.FirstWord.{badPlace}
@@ -32,35 +32,35 @@ use Rattle.clock.specs.Lifetime.{yearOf, lifetimeOf, timesOf}
 use Rattle.clock.specs.Answers.{clockSays, dateSays, asked, lifetimeSays, timesSays}
 use Rattle.clock.specs.Promise.{CheckPromise, DatePromise, LifetimePromise, TimesPromise}
 use Rattle.clock.specs.declared.Clock.{Clock}
-use Rattle.rules.specs.Form.{plain, badClient, badWish}
-use Rattle.rules.specs.Rules.{good, recs, empty}
-use Rattle.rules.specs.Edits.{stands, full, addSays, removeSays}
-use Rattle.rules.specs.Load.{loadSays, addAll, items}
-use Rattle.rules.specs.Afresh.{subs}
-use Rattle.book.specs.Answer.{said as saidEdit}
-use Rattle.records.specs.Promise.{BadClientPromise, BadWishPromise, ClientOfPromise, WishOfPromise, MarkOrNonePromise, RankOfPromise, RankOrNonePromise}
-use Rattle.good.specs.Promise.{IsGoodPromise}
-use Rattle.moves.specs.Promise.{OpenPromise, ClosePromise}
+use Rattle.book_rules.specs.Form.{plain, badClient, badWish}
+use Rattle.book_rules.specs.Rules.{good, recs, empty}
+use Rattle.book_rules.specs.Edits.{stands, full, addSays, removeSays}
+use Rattle.book_rules.specs.Load.{loadSays, addAll, items}
+use Rattle.book_rules.specs.Afresh.{subs}
+use Rattle.book_edits.specs.Answer.{said as saidEdit}
+use Rattle.book_records.specs.Promise.{BadClientPromise, BadWishPromise, ClientOfPromise, WishOfPromise, MarkOrNonePromise, RankOfPromise, RankOrNonePromise}
+use Rattle.book_check.specs.Promise.{IsGoodPromise}
+use Rattle.book_shifts.specs.Promise.{OpenPromise, ClosePromise}
 use Rattle.sorting.specs.Promise.{SortPromise}
-use Rattle.book.specs.Promise.{AddPromise, RemovePromise, AddEachPromise}
-use Rattle.loads.specs.Promise.{LoadPromise}
+use Rattle.book_edits.specs.Promise.{AddPromise, RemovePromise, AddEachPromise}
+use Rattle.book_loads.specs.Promise.{LoadPromise}
 use Rattle.report.specs.Hits.{hitsOf}
 use Rattle.report.specs.Report.{summaryOf, reportSays}
 use Rattle.report.specs.Promise.{ReportPromise}
 use Rattle.report.specs.declared.Answer.{Answer as Reported}
 use Rattle.report.specs.declared.Verdict.{Verdict}
 use Rattle.report.specs.declared.Verdict.the-variants.{Granted, Refused, RefusedAt}
-use Rattle.lines.specs.Promise.{NowLinePromise, ClientLinePromise, HeaderLinePromise, SubLinePromise}
+use Rattle.input_lines.specs.Promise.{NowLinePromise, ClientLinePromise, HeaderLinePromise, SubLinePromise}
 use Rattle.clock.specs.declared.Times.{Times}
 use Rattle.page_lines.specs.Promise.{SizePromise, PartsPromise}
-use Rattle.printing.specs.Page.{pageText, refusedText}
-use Rattle.printing.specs.Promise.{printSays, PrintPromise, saidPrinted}
+use Rattle.page_printing.specs.Page.{pageText, refusedText}
+use Rattle.page_printing.specs.Promise.{printSays, PrintPromise, saidPrinted}
 use Rattle.page.specs.Promise.{PagePromise}
 use Rattle.burst.specs.declared.Voted.{Voted}
 use Rattle.header.specs.declared.Wrote.{Wrote}
-use Rattle.book.specs.declared.Edited.{Edited}
-use Rattle.printing.specs.declared.Printed.{Printed}
-use Rattle.answers.specs.Promise.{CapPromise, AnswerPromise, VotedPromise, EditedPromise, PrintedPromise, WrotePromise, YesPromise}
+use Rattle.book_edits.specs.declared.Edited.{Edited}
+use Rattle.page_printing.specs.declared.Printed.{Printed}
+use Rattle.c_answers.specs.Promise.{CapPromise, AnswerPromise, VotedPromise, EditedPromise, PrintedPromise, WrotePromise, YesPromise}
 use Rattle.demands.specs.Forms.{LeavesNoChoice, LeavesNoChoiceOf, RefusalWritesNothing, GoesBy, numbered}
 use Rattle.demands.specs.Outside.{OutsideCall, OutsideRefusal, OutsideNumber}
 

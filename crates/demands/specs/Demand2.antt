@@ -36,7 +36,7 @@ use Rattle.clock.specs.Meaning.{Exists, Holds}
 use Rattle.clock.specs.Steps.{Fit}
 use Rattle.clock.specs.declared.Clock.{Clock}
 use Rattle.clock.specs.declared.State.{State}
-use Rattle.rules.specs.Load.{Sub}
+use Rattle.book_rules.specs.Load.{Sub}
 use Rattle.report.specs.Hits.{hasClass, matching}
 use Rattle.demands.specs.Forms.{GoesBy}
 

@@ -12,12 +12,12 @@ use Rattle.header.specs.Reading.{readSays}
 use Rattle.clock.specs.Clock.{hasDay, isClock}
 use Rattle.clock.specs.Lifetime.{yearOf}
 use Rattle.clock.specs.declared.Clock.{Clock}
-use Rattle.rules.specs.Form.{plain, badClient}
-use Rattle.rules.specs.Rules.{good, empty}
-use Rattle.rules.specs.Load.{Sub}
-use Rattle.rules.specs.Afresh.{subs, times, Afresh, Valid, built}
-use Rattle.rules.specs.History.{Edit, answer, after, number, standingFrom, standing}
-use Rattle.history.specs.Statements.{LoadIsAdding, LoadIsBuilding, BookAndHistory}
+use Rattle.book_rules.specs.Form.{plain, badClient}
+use Rattle.book_rules.specs.Rules.{good, empty}
+use Rattle.book_rules.specs.Load.{Sub}
+use Rattle.book_rules.specs.Afresh.{subs, times, Afresh, Valid, built}
+use Rattle.book_rules.specs.History.{Edit, answer, after, number, standingFrom, standing}
+use Rattle.book_history.specs.Statements.{LoadIsAdding, LoadIsBuilding, BookAndHistory}
 use Rattle.report.specs.Hits.{isOf, pairs}
 use Rattle.report.specs.Report.{summaryOf, reportSays}
 use Rattle.report.specs.Answers.{answerOf}
@@ -25,10 +25,10 @@ use Rattle.report.specs.Exact.{wanted, Lists}
 use Rattle.report.specs.Own.{Agree}
 use Rattle.report.specs.Promise.{ReportPromise}
 use Rattle.report.specs.declared.Answer.{Answer}
-use Rattle.lines.specs.Forms.{clientLine}
-use Rattle.printing.specs.Page.{pageRoom}
-use Rattle.printing.specs.Promise.{saidPrinted}
-use Rattle.printing.specs.declared.Printed.{Printed}
+use Rattle.input_lines.specs.Forms.{clientLine}
+use Rattle.page_printing.specs.Page.{pageRoom}
+use Rattle.page_printing.specs.Promise.{saidPrinted}
+use Rattle.page_printing.specs.declared.Printed.{Printed}
 use Rattle.page.specs.Page.{pageOf}
 use Rattle.page.specs.Promise.{PagePromise}
 use Rattle.page.specs.Own.{subsIn, Input}

@@ -10,16 +10,16 @@ use Rattle.header.specs.Header.{Alert, textOf, WellFormed}
 use Rattle.header.specs.Answers.{said as saidRead}
 use Rattle.header.specs.Promise.{ReadPromise}
 use Rattle.header.specs.declared.Answer.{Answer as Read}
-use Rattle.rules.specs.Form.{plain}
-use Rattle.rules.specs.Rules.{recs, empty}
-use Rattle.rules.specs.Edits.{added}
-use Rattle.rules.specs.Load.{items}
-use Rattle.rules.specs.Afresh.{Afresh}
-use Rattle.rules.specs.History.{Edit, standingFrom}
-use Rattle.book.specs.Promise.{AddPromise, RemovePromise}
-use Rattle.loads.specs.Promise.{LoadPromise}
-use Rattle.book.specs.declared.Edited.{Edited}
-use Rattle.book.specs.declared.Edited.the-variants.{Done}
+use Rattle.book_rules.specs.Form.{plain}
+use Rattle.book_rules.specs.Rules.{recs, empty}
+use Rattle.book_rules.specs.Edits.{added}
+use Rattle.book_rules.specs.Load.{items}
+use Rattle.book_rules.specs.Afresh.{Afresh}
+use Rattle.book_rules.specs.History.{Edit, standingFrom}
+use Rattle.book_edits.specs.Promise.{AddPromise, RemovePromise}
+use Rattle.book_loads.specs.Promise.{LoadPromise}
+use Rattle.book_edits.specs.declared.Edited.{Edited}
+use Rattle.book_edits.specs.declared.Edited.the-variants.{Done}
 use Rattle.report.specs.Promise.{ReportPromise}
 use Rattle.report.specs.declared.Answer.{Answer as Reported}
 use Rattle.report.specs.declared.Verdict.the-variants.{Granted}

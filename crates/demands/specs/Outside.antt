@@ -7,14 +7,14 @@ use lib.ListN.{length}
 use Rattle.laws.specs.Order.{Said, isRefusal}
 use Rattle.burst.specs.Vote.{voteSays}
 use Rattle.clock.specs.declared.Clock.{Clock}
-use Rattle.rules.specs.Form.{plain}
-use Rattle.rules.specs.Edits.{addSays, removeSays}
-use Rattle.rules.specs.Load.{loadSays}
-use Rattle.printing.specs.Promise.{printSays}
+use Rattle.book_rules.specs.Form.{plain}
+use Rattle.book_rules.specs.Edits.{addSays, removeSays}
+use Rattle.book_rules.specs.Load.{loadSays}
+use Rattle.page_printing.specs.Promise.{printSays}
 use Rattle.page.specs.Page.{pageOf}
-use Rattle.answers.specs.Answer.{capped, packed, bare, numberIn, besideIn, numberOf, besideOf}
-use Rattle.words.specs.Says.{fieldsSay, howMany, textSays, summarySays, howManyHits}
-use Rattle.words.specs.Promise.{ReadPromise, WritePromise, ReportPromise}
+use Rattle.c_answers.specs.Answer.{capped, packed, bare, numberIn, besideIn, numberOf, besideOf}
+use Rattle.c_words.specs.Says.{fieldsSay, howMany, textSays, summarySays, howManyHits}
+use Rattle.c_words.specs.Promise.{ReadPromise, WritePromise, ReportPromise}
 use Rattle.same.specs.Says.{stripSays, goodSays}
 use Rattle.same.specs.Promise.{StripPromise, VotePromise, ListedPromise, ClassPromise, MatchesPromise, GoodPromise, AddPromise, RemovePromise, LoadPromise, PagePromise}
 use Rattle.demands.specs.Forms.{LeavesNoChoice, LeavesNoChoiceOf}

@@ -1,7 +1,7 @@
 -- The clock and the run of edits that the tables speak of: those of paper 01, "The report program".
 use mathlib.Core.List.{List, [], _∷_}
 use Rattle.clock.specs.declared.Clock.{Clock}
-use Rattle.rules.specs.History.{Edit, adds}
+use Rattle.book_rules.specs.History.{Edit, adds}
 
 -- the sample's clock and its four subscriptions
 abbrev pub sampleClock : Clock

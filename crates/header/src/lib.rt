@@ -1,4 +1,4 @@
-// What a header says, and which values each of its fields allows. Crate `reading` reads its text, crate `writing` writes it.
+// What a header says, and which values each of its fields allows. Crate `header_reading` reads its text, crate `header_writing` writes it.
 ghost use mathlib.Core.Path.{_≡_};
 ghost use Rattle.header.specs.Header.{isSenderByte};
 ghost use Rattle.header.specs.Promise.{IsOriginPromise, IsEventPromise, IsSenderPromise, IsWrittenPromise, IsIssuePromise, IsDurationPromise};

@@ -55,7 +55,7 @@ fn fields(f: Fields) {
 
 // Writes the fields back, and compares.
 fn back(f: Fields, out: &mut [u8], text: &[u8]) {
-    let w = writing::write(f, out);
+    let w = header_writing::write(f, out);
     let Wrote::Written(n) = w else {
         word(b"not written\n");
         return;
@@ -73,7 +73,7 @@ fn back(f: Fields, out: &mut [u8], text: &[u8]) {
 }
 
 fn one(text: &[u8]) {
-    let a = reading::read(text);
+    let a = header_reading::read(text);
     let v = a.verdict;
     match v {
         Verdict::Granted => {
@@ -132,7 +132,7 @@ fn good() -> Fields {
 }
 
 fn tried(f: Fields, out: &mut [u8]) {
-    let w = writing::write(f, out);
+    let w = header_writing::write(f, out);
     match w {
         Wrote::Written(n) => {
             word(b"written ");

@@ -7,16 +7,16 @@ use native.Mathlib.Omega.{arith}
 use lib.ListN.{take, drop}
 use Rattle.laws.specs.Order.{Said, granted, refused, refusedAt, next, choose}
 use Rattle.laws.specs.Space.{leaves}
-use Rattle.lines.specs.Lines.{pieces}
-use Rattle.lines.specs.Forms.{subLine}
-use Rattle.lines.specs.LineByLine.{eachLine}
-use Rattle.rules.specs.Form.{plain}
-use Rattle.rules.specs.Rules.{empty}
-use Rattle.rules.specs.Load.{items, addAll, loadSays}
-use Rattle.loads.specs.Promise.{LoadPromise}
-use Rattle.book.specs.Answer.{said}
-use Rattle.book.specs.declared.Edited.{Edited}
-use Rattle.book.specs.declared.Edited.the-variants.{Done, Refused}
+use Rattle.input_lines.specs.Lines.{pieces}
+use Rattle.input_lines.specs.Forms.{subLine}
+use Rattle.input_lines.specs.LineByLine.{eachLine}
+use Rattle.book_rules.specs.Form.{plain}
+use Rattle.book_rules.specs.Rules.{empty}
+use Rattle.book_rules.specs.Load.{items, addAll, loadSays}
+use Rattle.book_loads.specs.Promise.{LoadPromise}
+use Rattle.book_edits.specs.Answer.{said}
+use Rattle.book_edits.specs.declared.Edited.{Edited}
+use Rattle.book_edits.specs.declared.Edited.the-variants.{Done, Refused}
 use Rattle.page.specs.Input.{adds}
 use Rattle.page.specs.Steps.{GatheredOf, booked}
 use Rattle.page.specs.declared.Gathered.{Gathered}

@@ -8,19 +8,19 @@ use lib.ListN.{length, take, drop}
 use Rattle.laws.specs.Order.{Said, granted, next}
 use Rattle.laws.specs.Space.{leaves}
 use Rattle.laws.proofs.Next.{next-first}
-use Rattle.lines.specs.Lines.{pieces}
-use Rattle.lines.specs.Forms.{nowLine, clientLine, headerLine, subLine}
-use Rattle.lines.specs.LineByLine.{eachLine}
-use Rattle.lines.proofs.Cut.{one-cut, each-turn, took-short, took-sub}
-use Rattle.rules.specs.Form.{plain}
-use Rattle.rules.specs.Rules.{empty}
-use Rattle.rules.specs.Edits.{addSays, added}
-use Rattle.rules.specs.Load.{Sub, sub}
-use Rattle.rules.specs.Afresh.{Afresh}
-use Rattle.rules.specs.History.{answer, edited, number, effect, adds as addition}
-use Rattle.rules.proofs.Form.{plain-laws}
-use Rattle.history.proofs.Run.{afresh-answers, afresh-edited}
-use Rattle.history.proofs.Afresh.{afresh-valid, empty-afresh}
+use Rattle.input_lines.specs.Lines.{pieces}
+use Rattle.input_lines.specs.Forms.{nowLine, clientLine, headerLine, subLine}
+use Rattle.input_lines.specs.LineByLine.{eachLine}
+use Rattle.input_lines.proofs.Cut.{one-cut, each-turn, took-short, took-sub}
+use Rattle.book_rules.specs.Form.{plain}
+use Rattle.book_rules.specs.Rules.{empty}
+use Rattle.book_rules.specs.Edits.{addSays, added}
+use Rattle.book_rules.specs.Load.{Sub, sub}
+use Rattle.book_rules.specs.Afresh.{Afresh}
+use Rattle.book_rules.specs.History.{answer, edited, number, effect, adds as addition}
+use Rattle.book_rules.proofs.Form.{plain-laws}
+use Rattle.book_history.proofs.Run.{afresh-answers, afresh-edited}
+use Rattle.book_history.proofs.Afresh.{afresh-valid, empty-afresh}
 use Rattle.page.specs.Input.{adds, reportShows, clockOf, linesSay, inputSays}
 use Rattle.page.specs.Page.{printed, pageOf}
 

@@ -17,7 +17,7 @@ use Rattle.report.specs.declared.Summary.{Summary}
 use Rattle.report.specs.declared.Verdict.the-variants.{Granted, Refused, RefusedAt}
 use Rattle.report.proofs.Spans.{length-pairs}
 use Rattle.report.proofs.Given.{given, count-given}
-use Rattle.printing.specs.Page.{pageText, refusedText}
+use Rattle.page_printing.specs.Page.{pageText, refusedText}
 use Rattle.page.specs.Input.{hitRoom, reportShows}
 use Rattle.page.specs.Page.{printed}
 

@@ -4,13 +4,13 @@ use mathlib.Core.List.{List}
 use Prim.Native.Nat.{ℕ, _-_}
 use lib.ListN.{take, drop}
 use Rattle.laws.specs.Order.{Said, granted, refused, next}
-use Rattle.lines.specs.Lines.{pieces}
-use Rattle.lines.specs.Forms.{nowLine, clientLine, headerLine, subLine}
-use Rattle.lines.specs.LineByLine.{oneLine, eachLine}
-use Rattle.lines.specs.Next.{nextOf, headerAt}
-use Rattle.lines.proofs.LineByLine.{one-took, one-bad}
-use Rattle.lines.proofs.Headers.{header-stands, header-none}
-use Rattle.rules.specs.Rules.{empty}
+use Rattle.input_lines.specs.Lines.{pieces}
+use Rattle.input_lines.specs.Forms.{nowLine, clientLine, headerLine, subLine}
+use Rattle.input_lines.specs.LineByLine.{oneLine, eachLine}
+use Rattle.input_lines.specs.Next.{nextOf, headerAt}
+use Rattle.input_lines.proofs.LineByLine.{one-took, one-bad}
+use Rattle.input_lines.proofs.Headers.{header-stands, header-none}
+use Rattle.book_rules.specs.Rules.{empty}
 use Rattle.page.specs.Input.{clockOf, adds, reportShows, linesSay, inputSays, Shown}
 use Rattle.page.specs.Steps.{FrontOf}
 use Rattle.page.specs.declared.Front.the-variants.{Three, Malformed}

@@ -10,17 +10,17 @@ use Rattle.laws.specs.Order.{Said, granted, refused, refusedAt, next}
 use Rattle.laws.specs.Space.{pasted}
 use Rattle.laws.proofs.Next.{next-next, next-by}
 use Rattle.laws.proofs.Pasted.{pasted-one, pasted-two, pasted-length}
-use Rattle.lines.specs.Lines.{pieces}
-use Rattle.lines.specs.Forms.{subLine}
-use Rattle.lines.specs.LineByLine.{eachLine}
-use Rattle.lines.specs.Next.{nextOf}
-use Rattle.lines.proofs.LineByLine.{each-took, each-bad, each-done}
-use Rattle.lines.proofs.Next.{took-in}
-use Rattle.rules.specs.Form.{plain}
-use Rattle.rules.specs.Rules.{empty}
-use Rattle.rules.specs.Edits.{addSays, added}
-use Rattle.rules.specs.Load.{Sub, sub, items, addAll, loadSays}
-use Rattle.history.proofs.Proved.{plain-book-and-history}
+use Rattle.input_lines.specs.Lines.{pieces}
+use Rattle.input_lines.specs.Forms.{subLine}
+use Rattle.input_lines.specs.LineByLine.{eachLine}
+use Rattle.input_lines.specs.Next.{nextOf}
+use Rattle.input_lines.proofs.LineByLine.{each-took, each-bad, each-done}
+use Rattle.input_lines.proofs.Next.{took-in}
+use Rattle.book_rules.specs.Form.{plain}
+use Rattle.book_rules.specs.Rules.{empty}
+use Rattle.book_rules.specs.Edits.{addSays, added}
+use Rattle.book_rules.specs.Load.{Sub, sub, items, addAll, loadSays}
+use Rattle.book_history.proofs.Proved.{plain-book-and-history}
 use Rattle.page.specs.Input.{adds}
 use Rattle.page.specs.Steps.{gatheredSays}
 

@@ -4,9 +4,9 @@ use mathlib.Core.Bool.{true}
 use mathlib.Core.List.{List}
 use Prim.Native.Nat.{ℕ}
 use Rattle.laws.specs.Order.{isRefusal}
-use Rattle.printing.specs.Promise.{saidPrinted, PrintPromise}
-use Rattle.printing.specs.declared.Printed.{Printed}
-use Rattle.printing.proofs.NoChoice.{print-no-choice, print-refusal-writes-nothing}
+use Rattle.page_printing.specs.Promise.{saidPrinted, PrintPromise}
+use Rattle.page_printing.specs.declared.Printed.{Printed}
+use Rattle.page_printing.proofs.NoChoice.{print-no-choice, print-refusal-writes-nothing}
 use Rattle.page.specs.Page.{pageOf}
 use Rattle.page.specs.Promise.{PagePromise}
 

@@ -5,16 +5,16 @@ use mathlib.Core.List.{List, [], _∷_, _++_, map}
 use Prim.Native.Nat.{ℕ}
 use Rattle.laws.specs.Order.{Said, granted, refused, refusedAt, next, choose}
 use Rattle.laws.proofs.Next.{next-next}
-use Rattle.lines.specs.Lines.{isLine}
-use Rattle.lines.specs.Forms.{nowLine, clientLine, headerLine, subLine}
-use Rattle.lines.specs.LineByLine.{oneLine, eachLine, eachDone}
-use Rattle.lines.proofs.LineByLine.{each-lines}
-use Rattle.rules.specs.Form.{plain}
-use Rattle.rules.specs.Rules.{empty}
-use Rattle.rules.specs.Edits.{addSays, added}
-use Rattle.rules.specs.Load.{Sub, items, addAll, loadSays}
-use Rattle.rules.specs.Afresh.{Afresh}
-use Rattle.history.proofs.Proved.{plain-book-and-history}
+use Rattle.input_lines.specs.Lines.{isLine}
+use Rattle.input_lines.specs.Forms.{nowLine, clientLine, headerLine, subLine}
+use Rattle.input_lines.specs.LineByLine.{oneLine, eachLine, eachDone}
+use Rattle.input_lines.proofs.LineByLine.{each-lines}
+use Rattle.book_rules.specs.Form.{plain}
+use Rattle.book_rules.specs.Rules.{empty}
+use Rattle.book_rules.specs.Edits.{addSays, added}
+use Rattle.book_rules.specs.Load.{Sub, items, addAll, loadSays}
+use Rattle.book_rules.specs.Afresh.{Afresh}
+use Rattle.book_history.proofs.Proved.{plain-book-and-history}
 use Rattle.report.specs.Hits.{isOf}
 use Rattle.report.specs.Report.{Full, reportSays}
 use Rattle.report.specs.Own.{Agree, Covers}

@@ -4,16 +4,16 @@ use mathlib.Core.List.{List}
 use Prim.Native.Nat.{ℕ, _+_, _-_}
 use lib.ListN.{take, drop}
 use Rattle.laws.specs.Order.{Said, next}
-use Rattle.lines.specs.Lines.{pieces}
-use Rattle.lines.specs.Forms.{subLine}
-use Rattle.lines.specs.LineByLine.{eachLine}
-use Rattle.printing.specs.Page.{refusedText}
-use Rattle.printing.specs.Promise.{PrintPromise}
-use Rattle.printing.specs.declared.Printed.{Printed}
-use Rattle.printing.proofs.Writing.{print-as}
-use Rattle.rules.specs.Rules.{empty}
-use Rattle.book.specs.declared.Edited.{Edited}
-use Rattle.book.specs.declared.Edited.the-variants.{Done, Refused}
+use Rattle.input_lines.specs.Lines.{pieces}
+use Rattle.input_lines.specs.Forms.{subLine}
+use Rattle.input_lines.specs.LineByLine.{eachLine}
+use Rattle.page_printing.specs.Page.{refusedText}
+use Rattle.page_printing.specs.Promise.{PrintPromise}
+use Rattle.page_printing.specs.declared.Printed.{Printed}
+use Rattle.page_printing.proofs.Writing.{print-as}
+use Rattle.book_rules.specs.Rules.{empty}
+use Rattle.book_edits.specs.declared.Edited.{Edited}
+use Rattle.book_edits.specs.declared.Edited.the-variants.{Done, Refused}
 use Rattle.page.specs.Input.{adds, reportShows, inputSays}
 use Rattle.page.specs.Page.{printed, pageOf}
 use Rattle.page.specs.Promise.{PagePromise}

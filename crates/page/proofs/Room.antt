@@ -18,23 +18,23 @@ use Rattle.clock.specs.Clock.{hasDay, isClock}
 use Rattle.clock.specs.Lifetime.{yearOf}
 use Rattle.clock.specs.declared.Clock.{Clock}
 use Rattle.place.specs.FirstWord.{badPlace}
-use Rattle.rules.specs.Form.{plain, badClient, badWish}
-use Rattle.rules.specs.Rules.{empty, recs, good}
-use Rattle.rules.specs.Edits.{addSays, stands, full}
-use Rattle.rules.specs.Afresh.{subs}
+use Rattle.book_rules.specs.Form.{plain, badClient, badWish}
+use Rattle.book_rules.specs.Rules.{empty, recs, good}
+use Rattle.book_rules.specs.Edits.{addSays, stands, full}
+use Rattle.book_rules.specs.Afresh.{subs}
 use Rattle.report.specs.Hits.{hitsOf, pairs}
 use Rattle.report.specs.Report.{Full, summaryOf, alertSays, listSays, reportSays}
 use Rattle.report.specs.declared.Summary.{Summary}
 use Rattle.report.proofs.Spans.{length-pairs}
 use Rattle.report.proofs.Given.{given}
-use Rattle.lines.specs.Lines.{pieces, Form, isLine}
-use Rattle.lines.specs.Forms.{nowLine, clientLine, headerLine, subLine}
-use Rattle.lines.specs.LineByLine.{oneLine, eachLine}
-use Rattle.printing.specs.Page.{pageRoom}
-use Rattle.printing.specs.Promise.{saidPrinted}
-use Rattle.printing.specs.declared.Printed.{Printed}
-use Rattle.printing.proofs.Pages.{page-fits, refusal-fits}
-use Rattle.printing.proofs.Writing.{print-fits}
+use Rattle.input_lines.specs.Lines.{pieces, Form, isLine}
+use Rattle.input_lines.specs.Forms.{nowLine, clientLine, headerLine, subLine}
+use Rattle.input_lines.specs.LineByLine.{oneLine, eachLine}
+use Rattle.page_printing.specs.Page.{pageRoom}
+use Rattle.page_printing.specs.Promise.{saidPrinted}
+use Rattle.page_printing.specs.declared.Printed.{Printed}
+use Rattle.page_printing.proofs.Pages.{page-fits, refusal-fits}
+use Rattle.page_printing.proofs.Writing.{print-fits}
 use Rattle.page.specs.Input.{clockOf, adds, hitRoom, Shown, reportShows, linesSay, inputSays}
 use Rattle.page.specs.Page.{printed, pageOf}
 use Rattle.page.specs.Promise.{PagePromise}

@@ -3,13 +3,13 @@
 use Prim.Native.Nat.{ℕ}
 use mathlib.Core.List.{List}
 use Rattle.laws.specs.Order.{Said, granted, next}
-use Rattle.lines.specs.Lines.{pieces}
-use Rattle.lines.specs.Forms.{nowLine, clientLine, headerLine, subLine}
-use Rattle.lines.specs.LineByLine.{oneLine, eachLine}
+use Rattle.input_lines.specs.Lines.{pieces}
+use Rattle.input_lines.specs.Forms.{nowLine, clientLine, headerLine, subLine}
+use Rattle.input_lines.specs.LineByLine.{oneLine, eachLine}
 use Rattle.clock.specs.declared.Clock.{Clock}
-use Rattle.rules.specs.Form.{plain}
-use Rattle.rules.specs.Rules.{empty}
-use Rattle.rules.specs.Edits.{addSays, added}
+use Rattle.book_rules.specs.Form.{plain}
+use Rattle.book_rules.specs.Rules.{empty}
+use Rattle.book_rules.specs.Edits.{addSays, added}
 use Rattle.report.specs.Report.{Full, reportSays}
 
 -- the clock of a `now=` line

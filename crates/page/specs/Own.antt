@@ -6,11 +6,11 @@ use mathlib.Core.Path.{_≡_}
 use mathlib.Core.List.{List, [], _∷_, _++_, map}
 use Rattle.laws.specs.Order.{granted}
 use Rattle.laws.specs.Lists.{every}
-use Rattle.lines.specs.Lines.{pieces, isLine}
-use Rattle.lines.specs.Forms.{subLine}
-use Rattle.lines.specs.LineByLine.{eachDone}
-use Rattle.rules.specs.Rules.{empty}
-use Rattle.rules.specs.Load.{Sub, sub}
+use Rattle.input_lines.specs.Lines.{pieces, isLine}
+use Rattle.input_lines.specs.Forms.{subLine}
+use Rattle.input_lines.specs.LineByLine.{eachDone}
+use Rattle.book_rules.specs.Rules.{empty}
+use Rattle.book_rules.specs.Load.{Sub, sub}
 use Rattle.page.specs.Input.{adds}
 
 -- the subscription of a `sub=` line

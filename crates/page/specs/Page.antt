@@ -3,7 +3,7 @@ use Prim.Native.Nat.{ℕ}
 use mathlib.Core.List.{List}
 use Rattle.laws.specs.Order.{Said, granted, refused, refusedAt}
 use Rattle.report.specs.Hits.{pairs}
-use Rattle.printing.specs.Page.{pageText, refusedText}
+use Rattle.page_printing.specs.Page.{pageText, refusedText}
 use Rattle.page.specs.Input.{Shown, inputSays}
 
 abbrev pub shownText : Shown → List ℕ

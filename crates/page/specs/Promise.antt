@@ -4,8 +4,8 @@ use mathlib.Core.Path.{_≡_}
 use mathlib.Core.List.{List}
 use lib.ListN.{length}
 use Rattle.laws.specs.Space.{pasted, leaves}
-use Rattle.printing.specs.Promise.{printSays, saidPrinted}
-use Rattle.printing.specs.declared.Printed.{Printed}
+use Rattle.page_printing.specs.Promise.{printSays, saidPrinted}
+use Rattle.page_printing.specs.declared.Printed.{Printed}
 use Rattle.page.specs.Page.{pageOf}
 
 pub record PagePromise (input out : List ℕ) (r : Printed) (left : List ℕ) : Type 0 where

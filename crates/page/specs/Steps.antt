@@ -5,18 +5,18 @@ use mathlib.Core.Bool.{Bool}
 use mathlib.Core.List.{List}
 use lib.ListN.{length, take, drop}
 use Rattle.laws.specs.Order.{Said, granted, refused, next, choose}
-use Rattle.lines.specs.Lines.{pieces}
-use Rattle.lines.specs.Forms.{subLine}
-use Rattle.lines.specs.LineByLine.{eachLine}
-use Rattle.rules.specs.Form.{plain}
-use Rattle.rules.specs.Rules.{empty}
-use Rattle.rules.specs.Load.{items, addAll}
+use Rattle.input_lines.specs.Lines.{pieces}
+use Rattle.input_lines.specs.Forms.{subLine}
+use Rattle.input_lines.specs.LineByLine.{eachLine}
+use Rattle.book_rules.specs.Form.{plain}
+use Rattle.book_rules.specs.Rules.{empty}
+use Rattle.book_rules.specs.Load.{items, addAll}
 use Rattle.page.specs.Input.{adds, Shown, reportShows, inputSays}
 use Rattle.page.specs.declared.Front.{Front}
 use Rattle.page.specs.declared.Front.the-variants.{Three, Malformed}
 use Rattle.page.specs.declared.Gathered.{Gathered}
-use Rattle.book.specs.declared.Edited.{Edited}
-use Rattle.book.specs.declared.Edited.the-variants.{Done, Refused}
+use Rattle.book_edits.specs.declared.Edited.{Edited}
+use Rattle.book_edits.specs.declared.Edited.the-variants.{Done, Refused}
 
 -- ---- the first three lines
 

@@ -4,22 +4,22 @@ ghost use Prim.Native.Nat.{_+_, _*_, _≤_};
 ghost use mathlib.Core.List.{_∷_, []};
 ghost use lib.ListN.{length, take, drop};
 ghost use Rattle.laws.specs.Space.{pasted};
-ghost use Rattle.lines.specs.Lines.{pieces};
-ghost use Rattle.lines.specs.Forms.{subLine};
-ghost use Rattle.lines.specs.LineByLine.{eachLine};
-ghost use Rattle.rules.specs.Rules.{empty};
-ghost use Rattle.printing.specs.Page.{pageText};
-ghost use Rattle.printing.specs.Promise.{PrintPromise};
+ghost use Rattle.input_lines.specs.Lines.{pieces};
+ghost use Rattle.input_lines.specs.Forms.{subLine};
+ghost use Rattle.input_lines.specs.LineByLine.{eachLine};
+ghost use Rattle.book_rules.specs.Rules.{empty};
+ghost use Rattle.page_printing.specs.Page.{pageText};
+ghost use Rattle.page_printing.specs.Promise.{PrintPromise};
 ghost use Rattle.page.specs.Input.{adds, reportShows};
 ghost use Rattle.page.specs.Page.{printed};
 ghost use Rattle.page.specs.Promise.{PagePromise};
 ghost use Rattle.page.specs.Steps.{FrontOf, GatheredOf, booked, refusalOf};
-use book::Edited;
-use lines::ClientLine;
-use lines::HeaderLine;
-use lines::NowLine;
-use lines::SubLine;
-use printing::Printed;
+use book_edits::Edited;
+use input_lines::ClientLine;
+use input_lines::HeaderLine;
+use input_lines::NowLine;
+use input_lines::SubLine;
+use page_printing::Printed;
 use report::Summary;
 use report::Verdict;
 
@@ -45,18 +45,18 @@ fn three_lines(input: &[u8]) -> Front
         hour,
         minute,
         next,
-    } = lines::now_line(input, 0)
+    } = input_lines::now_line(input, 0)
     else {
         return Front::Malformed;
     };
     let ClientLine::Client {
         client,
         next: third,
-    } = lines::client_line(input, next)
+    } = input_lines::client_line(input, next)
     else {
         return Front::Malformed;
     };
-    let HeaderLine::Header { from, to, next: _ } = lines::header_line(input, third) else {
+    let HeaderLine::Header { from, to, next: _ } = input_lines::header_line(input, third) else {
         return Front::Malformed;
     };
     Front::Three(year, day, hour, minute, client, from, to)
@@ -90,7 +90,7 @@ fn gather(input: &[u8], at: usize, words: &mut [u32]) -> Gathered
             client,
             wish,
             next,
-        } = lines::sub_line(input, i)
+        } = input_lines::sub_line(input, i)
         else {
             return Gathered {
                 count,
@@ -112,7 +112,7 @@ fn add_subs(input: &[u8], at: usize, book: &mut [u32]) -> Edited
     let mut words = [0u32; 12291];
     let gathered = gather(input, at, &mut words);
     let n = 3 * gathered.count;
-    let edited = loads::load(book, &words[..n]);
+    let edited = book_loads::load(book, &words[..n]);
     let Edited::Done = edited else {
         return edited;
     };
@@ -140,7 +140,7 @@ fn show(out: &mut [u8], client: u32, s: Summary, hits: &[u32]) -> Printed
     let n = 2 * s.hits;
     let times = s.times;
     let event = s.event;
-    printing::print_page(out, client, times, &event, s.listed, s.class, &hits[..n])
+    page_printing::print_page(out, client, times, &event, s.listed, s.class, &hits[..n])
 }
 
 // The report, and what is printed of it. There is room for the hits of a full book.
@@ -152,8 +152,8 @@ fn finish(book: &[u32], client: u32, header: &[u8], at: clock::Clock, out: &mut 
     let verdict = r.verdict;
     match verdict {
         Verdict::Granted => show(out, client, r.summary, &hits),
-        Verdict::Refused(n) => printing::print_refusal(out, n),
-        Verdict::RefusedAt(n, _) => printing::print_refusal(out, n),
+        Verdict::Refused(n) => page_printing::print_refusal(out, n),
+        Verdict::RefusedAt(n, _) => page_printing::print_refusal(out, n),
     }
 }
 
@@ -163,12 +163,12 @@ pub fn page(input: &[u8], out: &mut [u8]) -> Printed
 {
     let front = three_lines(input);
     let Front::Three(year, day, hour, minute, client, from, to) = front else {
-        return printing::print_refusal(out, 23);
+        return page_printing::print_refusal(out, 23);
     };
     let mut book = [0u32; 8293];
     let edited = add_subs(input, to + 1, &mut book);
     let Edited::Done = edited else {
-        return printing::print_refusal(out, refusal_of(edited));
+        return page_printing::print_refusal(out, refusal_of(edited));
     };
     let at = clock::Clock {
         year,

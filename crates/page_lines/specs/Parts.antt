@@ -1,4 +1,4 @@
--- The lines of a page as the parts that are put one after the other. What a page says is `printing`'s to define: there the parts
+-- The lines of a page as the parts that are put one after the other. What a page says is `page_printing`'s to define: there the parts
 -- joined are shown to be its lines.
 use Prim.Native.Nat.{ℕ}
 use mathlib.Core.List.{List, [], _∷_, _++_}

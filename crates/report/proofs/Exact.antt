@@ -17,14 +17,14 @@ use Rattle.event.specs.Class.{classOf}
 use Rattle.clock.specs.Clock.{hasDay, isClock}
 use Rattle.clock.specs.Lifetime.{yearOf}
 use Rattle.clock.specs.declared.Clock.{Clock}
-use Rattle.rules.specs.Form.{plain, badClient}
-use Rattle.rules.specs.Load.{Sub}
-use Rattle.rules.specs.Afresh.{subs, times, Afresh}
-use Rattle.rules.specs.History.{Edit, standing, bookAfter}
-use Rattle.rules.proofs.Form.{plain-laws}
-use Rattle.history.proofs.Keeps.{keep-rise}
-use Rattle.history.proofs.Afresh.{book-rise, afresh-tallies}
-use Rattle.history.proofs.Proved.{plain-book-and-history}
+use Rattle.book_rules.specs.Form.{plain, badClient}
+use Rattle.book_rules.specs.Load.{Sub}
+use Rattle.book_rules.specs.Afresh.{subs, times, Afresh}
+use Rattle.book_rules.specs.History.{Edit, standing, bookAfter}
+use Rattle.book_rules.proofs.Form.{plain-laws}
+use Rattle.book_history.proofs.Keeps.{keep-rise}
+use Rattle.book_history.proofs.Afresh.{book-rise, afresh-tallies}
+use Rattle.book_history.proofs.Proved.{plain-book-and-history}
 use Rattle.report.specs.Hits.{isOf, matching, isHit, hitsOf}
 use Rattle.report.specs.Report.{Full, summaryOf, alertSays, listSays, reportSays}
 use Rattle.report.specs.Promise.{writesHits}

@@ -14,11 +14,11 @@ use Rattle.laws.proofs.All.{all-at}
 use Rattle.laws.proofs.Tally.{keep-append}
 use Rattle.place.specs.Packed.{packedPlace}
 use Rattle.place.proofs.Packed.{packed-some}
-use Rattle.rules.specs.Form.{plain}
-use Rattle.rules.specs.Rules.{Rec, state, recAt, recs, total, okRec, recordsRight, good}
-use Rattle.rules.specs.Load.{Sub}
-use Rattle.rules.specs.Afresh.{subOf, subs}
-use Rattle.rules.proofs.Good.{good-says}
+use Rattle.book_rules.specs.Form.{plain}
+use Rattle.book_rules.specs.Rules.{Rec, state, recAt, recs, total, okRec, recordsRight, good}
+use Rattle.book_rules.specs.Load.{Sub}
+use Rattle.book_rules.specs.Afresh.{subOf, subs}
+use Rattle.book_rules.proofs.Good.{good-says}
 use Rattle.report.specs.Hits.{hasClass, matching, isHit}
 use Rattle.report.specs.Steps.{found, hitSubs}
 use Rattle.report.specs.declared.Wanted.{Wanted}

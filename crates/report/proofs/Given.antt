@@ -14,10 +14,10 @@ use Rattle.header.specs.Reading.{readSays}
 use Rattle.clock.specs.Clock.{hasDay, isClock}
 use Rattle.clock.specs.Lifetime.{yearOf}
 use Rattle.clock.specs.declared.Clock.{Clock}
-use Rattle.rules.specs.Form.{plain, badClient}
-use Rattle.rules.specs.Rules.{good}
-use Rattle.rules.specs.Load.{Sub}
-use Rattle.rules.specs.Afresh.{subs}
+use Rattle.book_rules.specs.Form.{plain, badClient}
+use Rattle.book_rules.specs.Rules.{good}
+use Rattle.book_rules.specs.Load.{Sub}
+use Rattle.book_rules.specs.Afresh.{subs}
 use Rattle.report.specs.Hits.{hitsOf}
 use Rattle.report.specs.Report.{Full, summaryOf, alertSays, listSays, reportSays}
 use Rattle.report.specs.Answers.{answerOf, verdictOf, summaryIn}

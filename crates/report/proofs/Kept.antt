@@ -11,10 +11,10 @@ use Rattle.laws.proofs.Tests.{and-l, and-r, and-i}
 use Rattle.laws.proofs.Counting.{tally-keep}
 use Rattle.place.specs.FirstWord.{firstWord}
 use Rattle.place.proofs.Words.{word-low}
-use Rattle.rules.specs.Load.{Sub}
-use Rattle.rules.specs.Afresh.{sameSub, times}
-use Rattle.history.specs.Members.{rankSub, Rise}
-use Rattle.history.proofs.Same.{same-eq}
+use Rattle.book_rules.specs.Load.{Sub}
+use Rattle.book_rules.specs.Afresh.{sameSub, times}
+use Rattle.book_history.specs.Members.{rankSub, Rise}
+use Rattle.book_history.proofs.Same.{same-eq}
 use Rattle.report.specs.Hits.{isOf}
 use Rattle.report.specs.Exact.{After}
 

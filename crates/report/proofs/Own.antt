@@ -11,17 +11,17 @@ use Rattle.header.specs.Header.{Alert}
 use Rattle.header.specs.Reading.{readSays}
 use Rattle.event.specs.Class.{classOf}
 use Rattle.clock.specs.declared.Clock.{Clock}
-use Rattle.rules.specs.Form.{plain}
-use Rattle.rules.specs.Edits.{who}
-use Rattle.rules.specs.Load.{Sub}
-use Rattle.rules.specs.Afresh.{subs, Afresh}
-use Rattle.rules.specs.History.{Edit, standing, bookAfter}
-use Rattle.rules.proofs.Form.{plain-laws}
-use Rattle.history.specs.Members.{isIn}
-use Rattle.history.proofs.Keeps.{same-kept}
-use Rattle.history.proofs.Same.{in-times}
-use Rattle.history.proofs.Afresh.{book-rise}
-use Rattle.history.proofs.Proved.{plain-book-and-history}
+use Rattle.book_rules.specs.Form.{plain}
+use Rattle.book_rules.specs.Edits.{who}
+use Rattle.book_rules.specs.Load.{Sub}
+use Rattle.book_rules.specs.Afresh.{subs, Afresh}
+use Rattle.book_rules.specs.History.{Edit, standing, bookAfter}
+use Rattle.book_rules.proofs.Form.{plain-laws}
+use Rattle.book_history.specs.Members.{isIn}
+use Rattle.book_history.proofs.Keeps.{same-kept}
+use Rattle.book_history.proofs.Same.{in-times}
+use Rattle.book_history.proofs.Afresh.{book-rise}
+use Rattle.book_history.proofs.Proved.{plain-book-and-history}
 use Rattle.report.specs.Hits.{isOf, hitsOf}
 use Rattle.report.specs.Report.{Full, alertSays, listSays, reportSays}
 use Rattle.report.specs.Answers.{answerOf}

@@ -14,10 +14,10 @@ use Rattle.laws.specs.Space.{pasted}
 use Rattle.laws.proofs.Tally.{tally-append, tally-le, tally-more, length-keep, keep-append}
 use Rattle.laws.proofs.Tables.{table-ext, length-table}
 use Rattle.laws.proofs.Pasted.{pasted-two, pasted-nil}
-use Rattle.rules.specs.Form.{plain}
-use Rattle.rules.specs.Rules.{Rec, recAt, recs, total}
-use Rattle.rules.specs.Load.{Sub}
-use Rattle.rules.specs.Afresh.{subOf}
+use Rattle.book_rules.specs.Form.{plain}
+use Rattle.book_rules.specs.Rules.{Rec, recAt, recs, total}
+use Rattle.book_rules.specs.Load.{Sub}
+use Rattle.book_rules.specs.Afresh.{subOf}
 use Rattle.report.specs.Hits.{pairs}
 use Rattle.report.specs.Steps.{hitSubs, pair, span, hitWords, Wrote}
 

@@ -28,10 +28,10 @@ use Rattle.clock.specs.Answers.{timesSays}
 use Rattle.clock.specs.declared.Clock.{Clock}
 use Rattle.clock.specs.declared.Times.{Times}
 use Rattle.clock.proofs.Header.{bad-clock, no-day, timed}
-use Rattle.rules.specs.Form.{plain, badClient}
-use Rattle.rules.specs.Rules.{good}
-use Rattle.rules.specs.Load.{Sub}
-use Rattle.rules.specs.Afresh.{subs}
+use Rattle.book_rules.specs.Form.{plain, badClient}
+use Rattle.book_rules.specs.Rules.{good}
+use Rattle.book_rules.specs.Load.{Sub}
+use Rattle.book_rules.specs.Afresh.{subs}
 use Rattle.report.specs.Hits.{isHit, hitsOf}
 use Rattle.report.specs.Report.{Full, summaryOf, alertSays, listSays, reportSays}
 use Rattle.report.specs.Answers.{answerOf}

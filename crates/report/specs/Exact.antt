@@ -11,8 +11,8 @@ use Rattle.place.specs.FirstWord.{firstWord}
 use Rattle.event.specs.Class.{classOf}
 use Rattle.header.specs.Header.{Alert}
 use Rattle.clock.specs.declared.Clock.{Clock}
-use Rattle.rules.specs.Load.{Sub}
-use Rattle.rules.specs.Afresh.{times}
+use Rattle.book_rules.specs.Load.{Sub}
+use Rattle.book_rules.specs.Afresh.{times}
 use Rattle.report.specs.Hits.{isHit, pairs}
 use Rattle.report.specs.Report.{Full, summaryOf}
 use Rattle.report.specs.Promise.{writesHits}

@@ -3,8 +3,8 @@ use Prim.Native.Nat.{ℕ}
 use mathlib.Core.Bool.{Bool, true}
 use mathlib.Core.List.{List}
 use mathlib.Core.Path.{_≡_}
-use Rattle.rules.specs.Load.{Sub}
-use Rattle.rules.specs.Afresh.{times}
+use Rattle.book_rules.specs.Load.{Sub}
+use Rattle.book_rules.specs.Afresh.{times}
 use Rattle.report.specs.Hits.{isOf}
 
 -- each subscription that passes the test stands as often in one as in the other

@@ -12,10 +12,10 @@ use Rattle.event.specs.Class.{classOf}
 use Rattle.clock.specs.Clock.{hasDay, isClock}
 use Rattle.clock.specs.Lifetime.{yearOf, timesOf}
 use Rattle.clock.specs.declared.Clock.{Clock}
-use Rattle.rules.specs.Form.{plain}
-use Rattle.rules.specs.Edits.{sound, who}
-use Rattle.rules.specs.Load.{Sub}
-use Rattle.rules.specs.Afresh.{subs}
+use Rattle.book_rules.specs.Form.{plain}
+use Rattle.book_rules.specs.Edits.{sound, who}
+use Rattle.book_rules.specs.Load.{Sub}
+use Rattle.book_rules.specs.Afresh.{subs}
 use Rattle.report.specs.declared.Summary.{Summary}
 use Rattle.report.specs.Hits.{hitsOf}
 

@@ -21,11 +21,11 @@ use Rattle.clock.specs.declared.Timed.the-variants.{Granted, Refused}
 use Rattle.event.specs.Events.{isListed}
 use Rattle.event.specs.Class.{classOf}
 use Rattle.event.specs.declared.Kind.{Kind}
-use Rattle.rules.specs.Form.{plain}
+use Rattle.book_rules.specs.Form.{plain}
 use Rattle.place.specs.Packed.{packed, packedMatchSome}
-use Rattle.rules.specs.Rules.{Rec, recAt, recs}
-use Rattle.rules.specs.Load.{Sub}
-use Rattle.rules.specs.Afresh.{subOf}
+use Rattle.book_rules.specs.Rules.{Rec, recAt, recs}
+use Rattle.book_rules.specs.Load.{Sub}
+use Rattle.book_rules.specs.Afresh.{subOf}
 use Rattle.report.specs.Hits.{hasClass, pairs}
 use Rattle.report.specs.Report.{Full, alertSays, roomRows}
 use Rattle.report.specs.Answers.{answerOf}

@@ -7,9 +7,9 @@ ghost use lib.ListN.{length};
 ghost use mathlib.Core.List.{[], _∷_};
 ghost use Rattle.laws.specs.Lists.{tally, one};
 ghost use Rattle.header.specs.Answers.{alertIn};
-ghost use Rattle.rules.specs.Form.{plain};
-ghost use Rattle.rules.specs.Rules.{good};
-ghost use Rattle.rules.specs.Afresh.{subs};
+ghost use Rattle.book_rules.specs.Form.{plain};
+ghost use Rattle.book_rules.specs.Rules.{good};
+ghost use Rattle.book_rules.specs.Afresh.{subs};
 ghost use Rattle.report.specs.Hits.{hasClass, hitsOf};
 ghost use Rattle.report.specs.Promise.{ReportPromise};
 ghost use Rattle.report.specs.Steps.{rec, found, hitSubs, span, hitWords, Wrote, ListsHits, kindOf, TimedReport, PlacesRead, Readable, AlertReport};
@@ -65,10 +65,10 @@ struct Wanted {
 fn is_hit(first: u32, second: u32, wanted: Wanted, sent: &[u32]) -> bool
     ensures { λ r. ⌜ r ≡ found wanted (now (sent .entry)) (rec first second) ⌝ }
 {
-    if records::client_of(second) != wanted.client {
+    if book_records::client_of(second) != wanted.client {
         return false;
     }
-    if !has_class(records::wish_of(second), wanted.class) {
+    if !has_class(book_records::wish_of(second), wanted.class) {
         return false;
     }
     place::packed_match_some(place::pack(first), sent)
@@ -83,7 +83,7 @@ fn count_hits(book: &[u32], from: usize, to: usize, wanted: Wanted, sent: &[u32]
     let mut i = from;
     while i < to {
         let second = book[102 + 2 * i];
-        if records::client_of(second) == wanted.client {
+        if book_records::client_of(second) == wanted.client {
             if is_hit(book[101 + 2 * i], second, wanted, sent) {
                 hits += 1;
             }
@@ -109,7 +109,7 @@ fn put_hit(
         return at;
     }
     out[at] = place::place_of(first);
-    out[at + 1] = records::wish_of(second);
+    out[at + 1] = book_records::wish_of(second);
     at + 2
 }
 
@@ -131,7 +131,7 @@ fn write_hits(
     let mut i = from;
     while i < to {
         let second = book[102 + 2 * i];
-        if records::client_of(second) == wanted.client {
+        if book_records::client_of(second) == wanted.client {
             e = put_hit(book[101 + 2 * i], second, wanted, sent, out, e);
         }
         i += 1;
@@ -241,13 +241,13 @@ fn alert_report(
 pub fn report(book: &[u32], client: u32, header: &[u8], at: clock::Clock, out: &mut [u32]) -> Answer
     ensures { λ r. ⌜ ReportPromise (now (book .entry)) client (now (header .entry)) at (now (out .entry)) r (now (out .exit)) ⌝ }
 {
-    if !good::is_good(book) {
+    if !book_check::is_good(book) {
         return refused(16);
     }
-    if records::bad_client(client) {
+    if book_records::bad_client(client) {
         return refused(17);
     }
-    let read = reading::read(header);
+    let read = header_reading::read(header);
     let verdict = read.verdict;
     let header::Verdict::Granted = verdict else {
         return unread(verdict);

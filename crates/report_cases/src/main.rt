@@ -1,7 +1,7 @@
 // Prints the page of each input 01 to 99, behind a line `-- NN`.
 ghost use Prim.Native.Nat.{_<_};
 use libc::STDOUT_FILENO;
-use printing::Printed;
+use page_printing::Printed;
 
 // The page of what a file holds.
 fn print_page(fd: i32) {

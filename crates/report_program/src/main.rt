@@ -4,7 +4,7 @@
 ghost use mathlib.Core.Path.{_≡_};
 ghost use lib.ListN.{length};
 ghost use Rattle.report_program.specs.Reading.{after, Within};
-use printing::Printed;
+use page_printing::Printed;
 
 // What a read brought: so many bytes more; the end of an input that has so many; or it failed.
 enum Input {

@@ -5,13 +5,13 @@ use lib.ListN.{length}
 use Rattle.laws.specs.Space.{pasted}
 use Rattle.burst.specs.Strip.{stripped}
 use Rattle.burst.specs.Vote.{text, voteSays, voteLeaves}
-use Rattle.rules.specs.Form.{plain}
-use Rattle.rules.specs.Edits.{addSays, added, removeSays, removed}
-use Rattle.rules.specs.Load.{loadSays}
-use Rattle.printing.specs.Promise.{printSays}
+use Rattle.book_rules.specs.Form.{plain}
+use Rattle.book_rules.specs.Edits.{addSays, added, removeSays, removed}
+use Rattle.book_rules.specs.Load.{loadSays}
+use Rattle.page_printing.specs.Promise.{printSays}
 use Rattle.page.specs.Page.{pageOf}
-use Rattle.answers.specs.Answer.{numberIn}
-use Rattle.answers.proofs.Keeps.{keeps, keeps-of}
+use Rattle.c_answers.specs.Answer.{numberIn}
+use Rattle.c_answers.proofs.Keeps.{keeps, keeps-of}
 use mathlib.Core.Path.{_≡_, refl, sym, _∙_}
 use Rattle.same.specs.Promise.{StripPromise, VotePromise, ListedPromise, ClassPromise, MatchesPromise, GoodPromise, AddPromise, RemovePromise, LoadPromise, PagePromise}
 

@@ -10,12 +10,12 @@ use Rattle.burst.specs.Vote.{voteSays, voteLeaves}
 use Rattle.event.specs.Events.{code, isListed}
 use Rattle.event.specs.Class.{classOf}
 use Rattle.place.specs.Place.{matches}
-use Rattle.rules.specs.Form.{plain}
-use Rattle.rules.specs.Edits.{addSays, added, removeSays, removed}
-use Rattle.rules.specs.Load.{loadSays}
-use Rattle.printing.specs.Promise.{printSays}
+use Rattle.book_rules.specs.Form.{plain}
+use Rattle.book_rules.specs.Edits.{addSays, added, removeSays, removed}
+use Rattle.book_rules.specs.Load.{loadSays}
+use Rattle.page_printing.specs.Promise.{printSays}
 use Rattle.page.specs.Page.{pageOf}
-use Rattle.answers.specs.Answer.{packed, bare}
+use Rattle.c_answers.specs.Answer.{packed, bare}
 use Rattle.same.specs.Says.{stripSays, goodSays}
 
 -- ---- bursts

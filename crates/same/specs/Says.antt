@@ -2,8 +2,8 @@
 use Prim.Native.Nat.{ℕ}
 use mathlib.Core.List.{List}
 use Rattle.laws.specs.Order.{Said, granted, inOrder}
-use Rattle.rules.specs.Form.{plain}
-use Rattle.rules.specs.Edits.{sound}
+use Rattle.book_rules.specs.Form.{plain}
+use Rattle.book_rules.specs.Edits.{sound}
 use Rattle.burst.specs.Strip.{lead}
 
 -- how many bytes lead; it never refuses

@@ -1,13 +1,13 @@
 // SAME headers, votes, subscriptions and reports for C and its neighbours. Each call is thin: it hands on what a crate below says,
 // as numbers.
 ghost use mathlib.Core.Path.{_≡_};
-ghost use Rattle.words.specs.Promise.{ReadPromise, WritePromise, ReportPromise};
+ghost use Rattle.c_words.specs.Promise.{ReadPromise, WritePromise, ReportPromise};
 ghost use Rattle.same.specs.Promise.{StripPromise, VotePromise, ListedPromise, ClassPromise, MatchesPromise, GoodPromise, AddPromise, RemovePromise, LoadPromise, PagePromise};
-use answers::answer;
-use answers::edited;
-use answers::printed;
-use answers::voted;
-use answers::yes;
+use c_answers::answer;
+use c_answers::edited;
+use c_answers::printed;
+use c_answers::voted;
+use c_answers::yes;
 use clock::Clock;
 
 // ---- bursts
@@ -35,7 +35,7 @@ pub extern "C" fn same_vote(a: &[u8], b: &[u8], c: &[u8], out: &mut [u8]) -> u64
 pub extern "C" fn same_read(text: &[u8], fields: &mut [u32]) -> u64
     ensures { λ r. ⌜ ReadPromise (now (text .entry)) (now (fields .entry)) r (now (fields .exit)) ⌝ }
 {
-    words::read_words(text, fields)
+    c_words::read_words(text, fields)
 }
 
 // Writes a header text from its fields.
@@ -43,7 +43,7 @@ pub extern "C" fn same_read(text: &[u8], fields: &mut [u32]) -> u64
 pub extern "C" fn same_write(fields: &[u32], out: &mut [u8]) -> u64
     ensures { λ r. ⌜ WritePromise (now (fields .entry)) (now (out .entry)) r (now (out .exit)) ⌝ }
 {
-    words::write_words(fields, out)
+    c_words::write_words(fields, out)
 }
 
 // ---- events and places
@@ -79,7 +79,7 @@ pub extern "C" fn same_matches(watched: u32, sent: u32) -> u32
 pub extern "C" fn same_good(book: &[u32]) -> u64
     ensures { λ r. ⌜ GoodPromise (now (book .entry)) r ⌝ }
 {
-    if good::is_good(book) { 0 } else { 16 }
+    if book_check::is_good(book) { 0 } else { 16 }
 }
 
 // Adds one subscription.
@@ -87,7 +87,7 @@ pub extern "C" fn same_good(book: &[u32]) -> u64
 pub extern "C" fn same_add(book: &mut [u32], place: u32, client: u32, wish: u32) -> u64
     ensures { λ r. ⌜ AddPromise (now (book .entry)) place client wish r (now (book .exit)) ⌝ }
 {
-    edited(book::add(book, place, client, wish))
+    edited(book_edits::add(book, place, client, wish))
 }
 
 // Removes one subscription.
@@ -95,7 +95,7 @@ pub extern "C" fn same_add(book: &mut [u32], place: u32, client: u32, wish: u32)
 pub extern "C" fn same_remove(book: &mut [u32], place: u32, client: u32) -> u64
     ensures { λ r. ⌜ RemovePromise (now (book .entry)) place client r (now (book .exit)) ⌝ }
 {
-    edited(book::remove(book, place, client))
+    edited(book_edits::remove(book, place, client))
 }
 
 // Builds the book afresh from items of three words.
@@ -103,7 +103,7 @@ pub extern "C" fn same_remove(book: &mut [u32], place: u32, client: u32) -> u64
 pub extern "C" fn same_load(book: &mut [u32], items: &[u32]) -> u64
     ensures { λ r. ⌜ LoadPromise (now (book .entry)) (now (items .entry)) r (now (book .exit)) ⌝ }
 {
-    edited(loads::load(book, items))
+    edited(book_loads::load(book, items))
 }
 
 // ---- the report
@@ -129,7 +129,7 @@ pub extern "C" fn same_report(
         hour,
         minute,
     };
-    words::report_words(book, client, header, at, summary, hits)
+    c_words::report_words(book, client, header, at, summary, hits)
 }
 
 // ---- the program

@@ -1,7 +1,7 @@
 -- `page::finish` meets its contract. Assumes nothing.
 use mathlib.Core.Path.{sym, _∙_}
 use native.Mathlib.Omega.{arith}
-use Rattle.printing.proofs.Writing.{print-as}
+use Rattle.page_printing.proofs.Writing.{print-as}
 use Rattle.report.proofs.Given.{answer-verdict, answer-summary}
 use Rattle.page.proofs.Finishes.{shows-refused, shows-refused-at, shows-granted}
 use borrow.Author.Needs.{needs}

@@ -4,9 +4,9 @@ use mathlib.Core.Path.{sym, ap, _∙_}
 use native.Mathlib.Omega.{arith}
 use borrow.Author.Needs.{needs}
 use lib.ListN.{length}
-use Rattle.lines.specs.Answers.{saidSub}
-use Rattle.lines.specs.Forms.{subLine}
-use Rattle.lines.proofs.Next.{took-in}
+use Rattle.input_lines.specs.Answers.{saidSub}
+use Rattle.input_lines.specs.Forms.{subLine}
+use Rattle.input_lines.proofs.Next.{took-in}
 use Rattle.page.proofs.Gathering.{Gathering, begun, all-gathered, cut-short, too-many, went}
 use Rattle.page.proofs.gather.Statement.{statement}
 use Rattle.page.proofs.gather.Tie as tie

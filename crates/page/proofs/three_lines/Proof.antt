@@ -1,7 +1,7 @@
 -- `page::three_lines` meets its contract. Assumes nothing.
 use mathlib.Core.Path.{sym, ap, _∙_}
 use borrow.Author.Needs.{needs}
-use Rattle.lines.specs.Answers.{saidNow, saidClient, saidHeader}
+use Rattle.input_lines.specs.Answers.{saidNow, saidClient, saidHeader}
 use Rattle.page.proofs.Fronts.{front-1, front-2, front-3, front-4}
 use borrow.Author.Needs.{needs}
 use Rattle.page.proofs.three_lines.Statement.{statement}

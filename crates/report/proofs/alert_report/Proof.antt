@@ -2,8 +2,8 @@
 use mathlib.Core.Path.{sym, ap, _∙_}
 use Rattle.header.specs.Answers.{alertIn}
 use Rattle.clock.specs.Answers.{saidTimed}
-use Rattle.rules.specs.Form.{plain}
-use Rattle.rules.specs.Afresh.{subs}
+use Rattle.book_rules.specs.Form.{plain}
+use Rattle.book_rules.specs.Afresh.{subs}
 use Rattle.report.specs.Hits.{hitsOf}
 use Rattle.report.specs.Steps.{timedRefusal}
 use Rattle.report.proofs.Stages.{untimely, timely}

@@ -5,7 +5,7 @@ use mathlib.Core.Logic.{⊎-elim}
 use native.Mathlib.Omega.{arith}
 use borrow.Author.Needs.{needs}
 use Rattle.laws.specs.Lists.{tally, one}
-use Rattle.rules.specs.Rules.{recAt}
+use Rattle.book_rules.specs.Rules.{recAt}
 use Rattle.report.specs.Steps.{found, span}
 use Rattle.report.proofs.Spans.{span-none, tally-span}
 use Rattle.report.proofs.Found.{not-own}

@@ -9,9 +9,9 @@ use borrow.Author.Tests.{lt-ltb, le-ltb, lt-leb, le-leb}
 use lib.Dec.{leb, ltb}
 use lib.ListN.{length}
 use Rattle.laws.proofs.Tests.{le-or-lt}
-use Rattle.rules.specs.Form.{plain}
-use Rattle.rules.specs.Rules.{total}
-use Rattle.rules.proofs.Good.{good-says}
+use Rattle.book_rules.specs.Form.{plain}
+use Rattle.book_rules.specs.Rules.{total}
+use Rattle.book_rules.proofs.Good.{good-says}
 use Rattle.report.specs.Steps.{found, hitSubs}
 use Rattle.report.proofs.Spans.{span-few, book-count}
 use Rattle.report.proofs.has_room.Statement.{statement}

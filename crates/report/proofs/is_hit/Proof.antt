@@ -6,8 +6,8 @@ use mathlib.Core.List.{List}
 use borrow.Author.Needs.{needs}
 use borrow.Author.Tests.{eq-eqb, not-true, not-false}
 use Rattle.place.specs.Packed.{packed, packedMatchSome}
-use Rattle.rules.specs.Form.{plain}
-use Rattle.rules.specs.Rules.{Rec}
+use Rattle.book_rules.specs.Form.{plain}
+use Rattle.book_rules.specs.Rules.{Rec}
 use Rattle.report.specs.Hits.{hasClass}
 use Rattle.report.specs.Steps.{rec, found}
 use Rattle.report.specs.declared.Wanted.{Wanted}

@@ -10,9 +10,9 @@ use lib.Dec.{ltb}
 use lib.ListN.{length}
 use Rattle.laws.specs.Lists.{tally}
 use Rattle.laws.specs.Space.{pasted}
-use Rattle.rules.specs.Form.{plain}
-use Rattle.rules.specs.Rules.{Rec, total}
-use Rattle.rules.proofs.Good.{good-says}
+use Rattle.book_rules.specs.Form.{plain}
+use Rattle.book_rules.specs.Rules.{Rec, total}
+use Rattle.book_rules.proofs.Good.{good-says}
 use Rattle.report.specs.Steps.{found, hitSubs, span, hitWords, Wrote, ListsHits}
 use Rattle.report.specs.declared.Listed.the-variants.{All, Short}
 use Rattle.report.proofs.Spans.{words-length, book-words, book-count}

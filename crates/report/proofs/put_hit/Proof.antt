@@ -11,8 +11,8 @@ use Rattle.laws.specs.Lists.{one}
 use Rattle.laws.specs.Space.{pasted}
 use Rattle.laws.proofs.Pasted.{pasted-nil, pasted-one, pasted-two}
 use Rattle.place.specs.FirstWord.{placeOf}
-use Rattle.rules.specs.Form.{plain}
-use Rattle.rules.specs.Rules.{Rec}
+use Rattle.book_rules.specs.Form.{plain}
+use Rattle.book_rules.specs.Rules.{Rec}
 use Rattle.report.specs.Hits.{pairs}
 use Rattle.report.specs.Steps.{rec, found, hitWords, Wrote}
 use Rattle.report.proofs.Spans.{words-yes, words-no}

@@ -7,9 +7,9 @@ use borrow.Author.Needs.{needs}
 use lib.ListN.{length, length-append}
 use lib.Seq.{length-take-le}
 use Rattle.header.specs.Answers.{alertIn}
-use Rattle.rules.specs.Form.{plain}
-use Rattle.rules.specs.Load.{Sub}
-use Rattle.rules.specs.Afresh.{subs}
+use Rattle.book_rules.specs.Form.{plain}
+use Rattle.book_rules.specs.Load.{Sub}
+use Rattle.book_rules.specs.Afresh.{subs}
 use Rattle.report.specs.Hits.{hitsOf}
 use Rattle.report.specs.Steps.{ListsHits, kindOf}
 use Rattle.report.specs.declared.Verdict.the-variants.{Granted}

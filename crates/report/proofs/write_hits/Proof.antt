@@ -5,7 +5,7 @@ use mathlib.Core.Logic.{⊎-elim}
 use native.Mathlib.Omega.{arith}
 use borrow.Author.Needs.{needs}
 use lib.ListN.{length}
-use Rattle.rules.specs.Rules.{recAt}
+use Rattle.book_rules.specs.Rules.{recAt}
 use Rattle.report.specs.Steps.{found, span, hitWords, Wrote}
 use Rattle.report.proofs.Spans.{begun, fits, turn, turn-no}
 use Rattle.report.proofs.Found.{not-own}

@@ -6,10 +6,10 @@ use native.Mathlib.Omega.{arith}
 use lib.ListN.{length, length-replicate}
 use lib.Seq.{length-take-le}
 use Rattle.laws.specs.Order.{granted}
-use Rattle.printing.specs.Page.{pageRoom}
-use Rattle.printing.specs.Promise.{saidPrinted}
-use Rattle.printing.specs.declared.Printed.{Printed}
-use Rattle.printing.specs.declared.Printed.the-variants.{Bytes}
+use Rattle.page_printing.specs.Page.{pageRoom}
+use Rattle.page_printing.specs.Promise.{saidPrinted}
+use Rattle.page_printing.specs.declared.Printed.{Printed}
+use Rattle.page_printing.specs.declared.Printed.the-variants.{Bytes}
 use Rattle.page.specs.Page.{pageOf}
 use Rattle.page.specs.Promise.{PagePromise}
 use Rattle.page.proofs.Room.{page-room, page-printed}

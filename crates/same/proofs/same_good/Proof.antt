@@ -1,10 +1,10 @@
 -- `same::same_good` meets its contract. Assumes nothing.
 use mathlib.Core.Path.{_≡_, refl, sym, ap, _∙_}
 use Prim.Native.Nat.{ℕ}
-use Rattle.rules.specs.Form.{plain}
-use Rattle.rules.specs.Rules.{good}
-use Rattle.answers.specs.Answer.{packed, bare}
-use Rattle.answers.proofs.Packs.{sound-number, unsound-number}
+use Rattle.book_rules.specs.Form.{plain}
+use Rattle.book_rules.specs.Rules.{good}
+use Rattle.c_answers.specs.Answer.{packed, bare}
+use Rattle.c_answers.proofs.Packs.{sound-number, unsound-number}
 use borrow.Author.Needs.{needs}
 use Rattle.same.proofs.same_good.Statement.{statement}
 use Rattle.same.proofs.same_good.Tie as tie

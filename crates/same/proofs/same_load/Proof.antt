@@ -1,10 +1,10 @@
 -- `same::same_load` meets its contract. Assumes nothing.
 use mathlib.Core.Path.{_≡_, refl, sym, ap, _∙_}
 use Prim.Native.Nat.{ℕ}
-use Rattle.answers.specs.Answer.{packed, bare}
-use Rattle.answers.proofs.Packs.{bare-again}
-use Rattle.rules.specs.Form.{plain}
-use Rattle.rules.specs.Load.{loadSays}
+use Rattle.c_answers.specs.Answer.{packed, bare}
+use Rattle.c_answers.proofs.Packs.{bare-again}
+use Rattle.book_rules.specs.Form.{plain}
+use Rattle.book_rules.specs.Load.{loadSays}
 use borrow.Author.Needs.{needs}
 use Rattle.same.proofs.same_load.Statement.{statement}
 use Rattle.same.proofs.same_load.Tie as tie

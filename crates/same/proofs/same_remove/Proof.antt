@@ -1,7 +1,7 @@
 -- `same::same_remove` meets its contract. Assumes nothing.
 use mathlib.Core.Path.{_≡_, refl, sym, ap, _∙_}
 use Prim.Native.Nat.{ℕ}
-use Rattle.answers.specs.Answer.{packed, bare}
+use Rattle.c_answers.specs.Answer.{packed, bare}
 use borrow.Author.Needs.{needs}
 use Rattle.same.proofs.same_remove.Statement.{statement}
 use Rattle.same.proofs.same_remove.Tie as tie

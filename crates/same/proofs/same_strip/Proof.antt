@@ -3,8 +3,8 @@ use mathlib.Core.Path.{_≡_, refl, sym, ap, _∙_}
 use Prim.Native.Nat.{ℕ}
 use Rattle.burst.specs.Strip.{lead}
 use Rattle.laws.specs.Order.{granted}
-use Rattle.answers.specs.Answer.{packed, bare}
-use Rattle.answers.proofs.Packs.{packs-granted}
+use Rattle.c_answers.specs.Answer.{packed, bare}
+use Rattle.c_answers.proofs.Packs.{packs-granted}
 use borrow.Author.Needs.{needs}
 use Rattle.same.proofs.same_strip.Statement.{statement}
 use Rattle.same.proofs.same_strip.Tie as tie

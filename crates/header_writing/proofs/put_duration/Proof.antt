@@ -1,0 +1,28 @@
+-- `writing::put_duration` meets its contract. Assumes nothing.
+use native.Mathlib.Omega.{arith}
+use Rattle.codec.proofs.Puts.{put-fits, puts-more}
+use Rattle.header_writing.specs.Steps.{durationText}
+use borrow.Author.Needs.{needs}
+use Rattle.header_writing.proofs.put_duration.Statement.{statement}
+use Rattle.header_writing.proofs.put_duration.Tie as tie
+
+put-digits-requires : tie.Need-put-digits-requires
+put-digits-requires c κs = search needs
+
+put-digits-requires-2 : tie.Need-put-digits-requires-2
+put-digits-requires-2 c κs = search needs
+
+put-byte-requires : tie.Need-put-byte-requires
+put-byte-requires c κs = search needs
+
+same-length : tie.Need-same-length
+same-length c = search needs
+
+returns : tie.Need-returns
+unfolding durationText
+returns c = puts-more (puts-more (put-fits (c .before .before .before .before .before .before .before .before .before .before .put-digits .ensures) (omega arith)) (c .before .before .before .before .before .before .put-digits2 .ensures) (omega arith)) (c .before .before .put-byte .ensures) (omega arith)
+
+pub put-duration-spec : {M : Type 1} → statement M
+put-duration-spec =
+    tie.close
+    (tie.spec put-digits-requires put-digits-requires-2 put-byte-requires same-length returns)

@@ -1,1 +1,0 @@
-// The book and its history: theorems over the definitions of `rules`. There is no code here.
