@@ -182,8 +182,8 @@ static void judge(struct tally *t, uint64_t library_said, uint64_t plain_said)
     if (library_said == plain_said && spaces) return;
     if (t->differences++ < 3)
         printf("DIFFERENCE in %s, input %llu: library %u beside %u, plain %u beside %u%s\n", t->call,
-               (unsigned long long)t->inputs, same_number(library_said), same_beside(library_said), number,
-               same_beside(plain_said), spaces ? "" : ", lent space differs");
+               (unsigned long long)t->inputs, same_number(library_said), same_size_or_index(library_said), number,
+               same_size_or_index(plain_said), spaces ? "" : ", lent space differs");
 }
 
 static void print_tally(const struct tally *t)
@@ -262,7 +262,7 @@ static size_t good_text(uint8_t *text, uint32_t count)
 {
     uint32_t fields[SAME_FIELD_WORDS];
     good_fields(fields, count);
-    return same_beside(plain_write(fields, SAME_FIELD_WORDS, text, SAME_TEXT_BYTES));
+    return same_size_or_index(plain_write(fields, SAME_FIELD_WORDS, text, SAME_TEXT_BYTES));
 }
 
 /* Bytes that stand near the edge of what some field allows. */
@@ -866,7 +866,7 @@ static void set_texts(uint32_t places)
     for (int i = 0; i < VARIETY; i++) {
         good_fields(bench.fields[i], places);
         bench.text_bytes[i] =
-            same_beside(plain_write(bench.fields[i], SAME_FIELD_WORDS, bench.texts[i], SAME_TEXT_BYTES));
+            same_size_or_index(plain_write(bench.fields[i], SAME_FIELD_WORDS, bench.texts[i], SAME_TEXT_BYTES));
     }
 }
 

@@ -4,7 +4,7 @@
  *   if (same_number(same_add(book, SAME_BOOK_WORDS, 39051, 7, 1))) ..refused..
  *   uint64_t said = same_report(book, SAME_BOOK_WORDS, 7, text, n, 2024, 159, 18, 40,
  *                               summary, SAME_SUMMARY_WORDS, hits, SAME_HIT_WORDS);
- *   if (same_number(said) == 0) ..same_beside(said) hits..
+ *   if (same_number(said) == 0) ..same_size_or_index(said) hits..
  *
  * Linking
  *   In the repository that this file is from, `rt staticlib same` makes target/staticlib/libsame.a for x86-64 Linux; it
@@ -136,7 +136,7 @@ extern "C" {
 
 /* The two halves of an answer. */
 static inline uint32_t same_number(uint64_t answer) { return (uint32_t)answer; }
-static inline uint32_t same_beside(uint64_t answer) { return (uint32_t)(answer >> 32); }
+static inline uint32_t same_size_or_index(uint64_t answer) { return (uint32_t)(answer >> 32); }
 
 /* Says how many bytes 0xAB lead the burst.
  * High half: that number. A run of more than 4,294,967,295 is said as 4,294,967,295.

@@ -18,7 +18,7 @@ static size_t receive(uint8_t *burst, size_t damaged)
 /* Says which call was refused, and by which number. */
 static int refused(const char *call, uint64_t answer)
 {
-    if (same_number(answer)) printf("%s: refused %u at %u\n", call, same_number(answer), same_beside(answer));
+    if (same_number(answer)) printf("%s: refused %u at %u\n", call, same_number(answer), same_size_or_index(answer));
     return same_number(answer) != 0;
 }
 
@@ -32,7 +32,7 @@ int main(void)
 
     uint64_t vote = same_vote(a, na, b, nb, c, nc, text, sizeof text);
     if (refused("vote", vote)) return 1;
-    size_t n = same_beside(vote);
+    size_t n = same_size_or_index(vote);
     printf("text=%.*s\n", (int)n, (const char *)text);
 
     if (refused("read", same_read(text, n, fields, SAME_FIELD_WORDS))) return 1;
@@ -44,6 +44,6 @@ int main(void)
     uint64_t report = same_report(book, SAME_BOOK_WORDS, 7, text, n, 2024, 159, 18, 40, summary, SAME_SUMMARY_WORDS,
                                   hits, SAME_HIT_WORDS);
     if (refused("report", report)) return 1;
-    for (uint32_t i = 0; i < same_beside(report); i++) printf("hit=%06u %02u\n", hits[2 * i], hits[2 * i + 1]);
+    for (uint32_t i = 0; i < same_size_or_index(report); i++) printf("hit=%06u %02u\n", hits[2 * i], hits[2 * i + 1]);
     return 0;
 }

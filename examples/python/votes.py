@@ -17,16 +17,16 @@ class Refused(Exception):
 
 
 def declare(name, *kinds):
-    """A call of the library that gives what stands beside a granted answer, or raises."""
+    """A call of the library that gives the size of a granted answer, or raises."""
     call = getattr(same, name)
     call.argtypes, call.restype = kinds, ctypes.c_uint64
 
     def granted(*words):
         answer = call(*words)
-        number, beside = answer & 0xFFFFFFFF, answer >> 32
+        number, size_or_index = answer & 0xFFFFFFFF, answer >> 32
         if number:
-            raise Refused(f"{name}: refused {number} at {beside}")
-        return beside
+            raise Refused(f"{name}: refused {number} at {size_or_index}")
+        return size_or_index
 
     return granted
 

@@ -1,4 +1,4 @@
--- Two answers that meet the promise are equal. Assumes nothing.
+-- The promise says what the answer is equal to, so two answers that meet it are equal.
 use Prim.Native.Nat.{ℕ}
 use mathlib.Core.Bool.{Bool}
 use mathlib.Core.List.{List}

@@ -5,8 +5,9 @@ ghost use Prim.Native.Nat.{ℕ, _+_, _-_, _*_, _/_, _<_, _≤_};
 ghost use lib.Dec.{eqb, ltb, leb};
 ghost use lib.ListN.{length, getD};
 ghost use Rattle.laws.specs.Lists.{table};
-ghost use Rattle.book_rules.specs.Form.{plain};
-ghost use Rattle.book_rules.specs.Rules.{state, recAt, below, countsRight, recordsRight, rising, unusedZero};
+ghost use Rattle.book_rules.specs.Form.{form};
+ghost use Rattle.book_rules.specs.Rules.{recState, recAt, below, countsRight, recordsRight, unusedZero};
+ghost use Rattle.book_rules.specs.Steps.{risingRank};
 ghost use Rattle.book_check.specs.Promise.{IsGoodPromise};
 
 // The first word of record i.
@@ -28,7 +29,7 @@ fn second_at(book: &[u32], i: usize) -> u32
 // The state of record i.
 fn state_at(book: &[u32], i: usize) -> usize
     requires { ⌜ (length (now book) ≡ 8293) × (i < 4096) ⌝ }
-    ensures { λ r. ⌜ r ≡ state (recAt (now (book .entry)) i) ⌝ }
+    ensures { λ r. ⌜ r ≡ recState (recAt (now (book .entry)) i) ⌝ }
 {
     let s = first_at(book, i) / 10000;
     s as usize
@@ -37,7 +38,7 @@ fn state_at(book: &[u32], i: usize) -> usize
 // Whether the first n records are in range and rise. One pass, each word looked at once.
 fn records_rise(book: &[u32], n: usize) -> bool
     requires { ⌜ (length (now book) ≡ 8293) × (n ≤ 4096) ⌝ }
-    ensures { λ r. ⌜ r ≡ (recordsRight plain (now (book .entry)) n && rising plain (now (book .entry)) n) ⌝ }
+    ensures { λ r. ⌜ r ≡ (recordsRight form (now (book .entry)) n && risingRank form (now (book .entry)) n) ⌝ }
 {
     let mut last: u64 = 0;
     let mut i: usize = 0;
@@ -55,7 +56,7 @@ fn records_rise(book: &[u32], n: usize) -> bool
 // Whether c is 0, or the record before index c has a state below s.
 fn ends_below(book: &[u32], c: usize, s: usize) -> bool
     requires { ⌜ (length (now book) ≡ 8293) × (c ≤ 4096) ⌝ }
-    ensures { λ r. ⌜ r ≡ (eqb c 0 || ltb (state (recAt (now (book .entry)) (c - 1))) s) ⌝ }
+    ensures { λ r. ⌜ r ≡ (eqb c 0 || ltb (recState (recAt (now (book .entry)) (c - 1))) s) ⌝ }
 {
     if c == 0 {
         return true;
@@ -66,7 +67,7 @@ fn ends_below(book: &[u32], c: usize, s: usize) -> bool
 // Whether c is n, or the record at index c has a state of at least s.
 fn starts_above(book: &[u32], n: usize, c: usize, s: usize) -> bool
     requires { ⌜ (length (now book) ≡ 8293) × (c ≤ n) × (n ≤ 4096) ⌝ }
-    ensures { λ r. ⌜ r ≡ (eqb c n || leb s (state (recAt (now (book .entry)) c))) ⌝ }
+    ensures { λ r. ⌜ r ≡ (eqb c n || leb s (recState (recAt (now (book .entry)) c))) ⌝ }
 {
     if c == n {
         return true;
@@ -76,7 +77,7 @@ fn starts_above(book: &[u32], n: usize, c: usize, s: usize) -> bool
 
 // Whether word s is its count, where the first n records are in range and rise: one look on each side of the record it names.
 fn count_is(book: &[u32], n: usize, s: usize) -> bool
-    requires { ⌜ (length (now book) ≡ 8293) × (n ≤ 4096) × (s < 101) × (recordsRight plain (now book) n ≡ true) × (rising plain (now book) n ≡ true) ⌝ }
+    requires { ⌜ (length (now book) ≡ 8293) × (n ≤ 4096) × (s < 101) × (recordsRight form (now book) n ≡ true) × (risingRank form (now book) n ≡ true) ⌝ }
     ensures { λ r. ⌜ r ≡ eqb (getD (now (book .entry)) s 0) (below (table n (recAt (now (book .entry)))) s) ⌝ }
 {
     let c = book[s] as usize;
@@ -91,7 +92,7 @@ fn count_is(book: &[u32], n: usize, s: usize) -> bool
 
 // Whether each of the first 101 words is its count, where the first n records are in range and rise.
 fn counts_right(book: &[u32], n: usize) -> bool
-    requires { ⌜ (length (now book) ≡ 8293) × (n ≤ 4096) × (recordsRight plain (now book) n ≡ true) × (rising plain (now book) n ≡ true) ⌝ }
+    requires { ⌜ (length (now book) ≡ 8293) × (n ≤ 4096) × (recordsRight form (now book) n ≡ true) × (risingRank form (now book) n ≡ true) ⌝ }
     ensures { λ r. ⌜ r ≡ countsRight (now (book .entry)) n ⌝ }
 {
     let mut s: usize = 0;

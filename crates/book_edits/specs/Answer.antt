@@ -4,6 +4,6 @@ use Rattle.book_edits.specs.declared.Edited.{Edited}
 use Rattle.book_edits.specs.declared.Edited.the-variants.{Done, Refused}
 
 -- done is granted; a number is a refusal
-abbrev pub said : Edited → Said (Unit {0})
-said Done = granted tt
-said (Refused n) = refused n
+abbrev pub saidEdited : Edited → Said (Unit {0})
+saidEdited Done = granted tt
+saidEdited (Refused n) = refused n

@@ -1,4 +1,3 @@
 pub mod Answer
-pub mod Run
 pub mod Promise
 pub mod Steps

@@ -1,47 +1,27 @@
--- Adding each of a list in order: all are granted in their turn, or there is a first that is refused. Assumes nothing.
+-- Adding each of a list in order: all are granted in their turn, or there is a first that is refused, and never both.
 use mathlib.Core.Path.{_≡_, refl, sym, ap, _∙_, subst}
 use mathlib.Core.Logic.{_⊎_, inl, inr, ⊎-elim}
-use mathlib.Core.Bool.{Bool, true, false, not}
+use mathlib.Core.Bool.{Bool, true, false}
 use mathlib.Core.List.{List, [], _∷_}
 use Prim.Native.Nat.{ℕ}
-use native.Mathlib.Omega.{arith}
-use Rattle.laws.specs.Order.{Said, granted, refused, refusedAt, choose}
+use Rattle.laws.specs.Order.{Said, granted, refused, refusedAt}
+use Rattle.laws.proofs.Clash.{clash}
+use Rattle.laws.proofs.Order.{anyNumber, noNumber, Numbered, passes-rows, granted-or}
 use Rattle.laws.proofs.Tests.{impossible}
-use Rattle.place.specs.FirstWord.{badPlace}
-use Rattle.book_rules.specs.Form.{Form, badClient, badWish}
-use Rattle.book_rules.specs.Rules.{recs, good}
-use Rattle.book_rules.specs.Edits.{stands, full, addSays, added}
-use Rattle.book_rules.specs.Load.{Sub, addAll}
+use Rattle.book_rules.specs.Form.{Form}
+use Rattle.book_rules.specs.Edits.{addRows, addSays, added}
+use Rattle.book_rules.specs.Subscription.{Sub}
+use Rattle.book_rules.specs.Load.{addAll}
 use Rattle.book_rules.specs.History.{Edit, answer, edited, after, number}
 use Rattle.book_history.specs.Adding.{addition, additions, AllGranted, none, more, FirstRefused, here, later}
 
 -- ---- an addition is granted or has a number
 
-record Numbered (s : Said (Unit {0})) : Type 0 where
-  its : ℕ
-  says : s ≡ refused its
-
-abbrev Plain : Said (Unit {0}) → Type 0
-Plain s = (s ≡ granted tt) ⊎ Numbered s
-
-plain-row : (b : Bool) (n : ℕ) (rest : Said (Unit {0})) → Plain rest → Plain (choose b (refused n) rest)
-plain-row true n rest k = inr (record { its = n; says = refl })
-plain-row false n rest k = k
-
-plain-add : (f : Form) (w : List ℕ) (place client wish : ℕ) → Plain (addSays f w place client wish)
+plain-add : (f : Form) (w : List ℕ) (place client wish : ℕ)
+    → (addSays f w place client wish ≡ granted tt) ⊎ Numbered anyNumber (addSays f w place client wish)
 unfolding addSays
 plain-add f w place client wish =
-    let r5 : Said (Unit {0}) = choose (full (recs w)) (refused 22) (granted tt) in
-    let r4 : Said (Unit {0}) = choose (stands f place client (recs w)) (refused 20) r5 in
-    let r3 : Said (Unit {0}) = choose (badWish wish) (refused 19) r4 in
-    let r2 : Said (Unit {0}) = choose (badPlace place) (refused 18) r3 in
-    let r1 : Said (Unit {0}) = choose (badClient client) (refused 17) r2 in
-    plain-row (not (good f w)) 16 r1
-    (plain-row (badClient client) 17 r2
-    (plain-row (badPlace place) 18 r3
-    (plain-row (badWish wish) 19 r4
-    (plain-row (stands f place client (recs w)) 20 r5
-    (plain-row (full (recs w)) 22 (granted tt) (inl refl))))))
+    granted-or anyNumber (addSays f w place client wish) (passes-rows anyNumber noNumber (addRows f w place client wish) (granted tt) refl refl)
 
 -- ---- adding each in order
 
@@ -78,7 +58,7 @@ module _ (f : Form) where
       ⊎-elim (λ (k : AllGranted f (edited f w (addition x)) (additions list)). inl (more e k))
       (λ (k : Stops (edited f w (addition x)) (additions list)). inr (record { number = k .number; first = later e (k .first) }))
       (goes list (edited f w (addition x))))
-      (λ (e : Numbered (addSays f w (x .place) (x .client) (x .wish))). inr (record { number = e .its; first = here (e .says) }))
+      (λ (e : Numbered anyNumber (addSays f w (x .place) (x .client) (x .wish))). inr (record { number = e .its; first = here (e .says) }))
       (plain-add f w (x .place) (x .client) (x .wish))
 
   -- so each is told by what is said
@@ -91,7 +71,7 @@ module _ (f : Form) where
       same a b q = cc
 
       never : {X : Type 0} (a : List ℕ) (n : ℕ) → granted a ≡ refused n → X
-      never a n q = absurd (let z : _≡_ {A = ℕ} 0 1 = cc in omega arith)
+      never a n q = clash cc
 
   pub only-refused : (n : ℕ) (list : List Sub) (w : List ℕ) → addAll f w list ≡ refused n → FirstRefused f n w (additions list)
   only-refused n list w e =
@@ -104,7 +84,7 @@ module _ (f : Form) where
       same m q = cc
 
       never : {X : Type 0} (a : List ℕ) → refused n ≡ granted a → X
-      never a q = absurd (let z : _≡_ {A = ℕ} 0 1 = cc in omega arith)
+      never a q = clash cc
 
   pub no-index : (n i : ℕ) (list : List Sub) (w : List ℕ) → addAll f w list ≡ refusedAt n i → ⊥
   no-index n i list w e =

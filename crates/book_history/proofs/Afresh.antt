@@ -1,4 +1,4 @@
--- The book built afresh from some subscriptions: there is one exactly if they could stand together, and only one. Assumes nothing.
+-- A good book is known by its subscriptions in rising order, so a book built afresh is the only one; it is there exactly if they could stand together.
 use mathlib.Core.Path.{_≡_, refl, sym, ap, _∙_}
 use mathlib.Core.Bool.{Bool, true}
 use mathlib.Core.List.{List, [], _∷_, map}
@@ -9,8 +9,8 @@ use Rattle.laws.specs.Lists.{tally}
 use Rattle.laws.proofs.Counting.{some-tally, length-map}
 use Rattle.book_rules.specs.Form.{Form, FormLaws}
 use Rattle.book_rules.specs.Rules.{recs, layout, good, empty}
-use Rattle.book_rules.specs.Load.{Sub}
-use Rattle.book_rules.specs.Afresh.{subOf, subs, times, Afresh, isPair, Apart, more, Valid, sorted, built}
+use Rattle.book_rules.specs.Subscription.{Sub, howOften, isPair}
+use Rattle.book_rules.specs.Afresh.{subOf, subs, Afresh, Apart, more, Valid, sorted, built}
 use Rattle.book_rules.specs.History.{standsIn}
 use Rattle.book_rules.proofs.Laid.{length-recs}
 use Rattle.book_rules.proofs.Good.{good-says, good-layout}
@@ -28,7 +28,7 @@ module _ (f : Form) (l : FormLaws f) where
   -- they stand in rising order of (first word, client), each in range
   pub book-rise : (w : List ℕ) → good f w ≡ true → Rise 0 (subs f w)
   unfolding subs
-  book-rise w g = sound-rise f l 0 (recs w) (good-sound f w (good-says f w g))
+  book-rise w g = sound-rise f l 0 (recs w) (good-sound f l w (good-says f w g))
 
   pub book-valid : (w : List ℕ) → good f w ≡ true → Valid (subs f w)
   unfolding subs
@@ -46,11 +46,11 @@ module _ (f : Form) (l : FormLaws f) where
   unfolding subs
   book-of-subs w g =
       let k = good-says f w g in
-      good-layout f w k ∙ ap layout (sym (recs-back f l 0 (recs w) (good-sound f w k)))
+      good-layout f w k ∙ ap layout (sym (recs-back f l 0 (recs w) (good-sound f l w k)))
 
   -- ---- one book only
 
-  pub one-book : (a b : List Sub) (w u : List ℕ) → ((x : Sub) → times x a ≡ times x b) → Afresh f a w → Afresh f b u → w ≡ u
+  pub one-book : (a b : List Sub) (w u : List ℕ) → ((x : Sub) → howOften x a ≡ howOften x b) → Afresh f a w → Afresh f b u → w ≡ u
   one-book a b w u e p q =
       let members : (x : Sub) → isIn x (subs f w) ≡ isIn x (subs f u) =
       same-members (subs f w) (subs f u) (λ x. p .exactly x ∙ e x ∙ sym (q .exactly x)) in
@@ -68,7 +68,7 @@ module _ (f : Form) (l : FormLaws f) where
 
   pub some-book : (list : List Sub) → Valid list → Afresh f list (built f list)
   unfolding built
-  some-book list v = holds-book f list (sorted f list) (holds-sorted list (v .apart)) (v .few)
+  some-book list v = holds-book f l list (sorted f list) (holds-sorted list (v .apart)) (v .few)
 
   -- ---- nothing out of range has a book
 
@@ -83,5 +83,5 @@ module _ (f : Form) (l : FormLaws f) where
 pub good-afresh : (f : Form) (w : List ℕ) → good f w ≡ true → Afresh f (subs f w) w
 good-afresh f w g = record { keeps = g; exactly = λ x. refl }
 
-pub empty-afresh : (f : Form) → Afresh f [] empty
-empty-afresh f = rw (← empty-layout) (holds-book f [] [] (record { sound = tt; alike = λ t. refl }) (omega arith))
+pub empty-afresh : (f : Form) → FormLaws f → Afresh f [] empty
+empty-afresh f l = rw (← empty-layout) (holds-book f l [] [] (record { sound = tt; alike = λ t. refl }) (omega arith))

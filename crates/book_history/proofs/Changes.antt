@@ -1,4 +1,4 @@
--- A granted edit changes the book, some addition is granted, and over a book that is not good nothing is. Assumes nothing.
+-- A granted edit changes the number of records or whether a pair stands; client 7 may be added; over a book that is not good nothing is.
 use mathlib.Core.Path.{_≡_, refl, sym, ap, _∙_}
 use mathlib.Core.Bool.{Bool, true, false, _&&_, not}
 use mathlib.Core.List.{List, [], _∷_}
@@ -21,7 +21,8 @@ use Rattle.book_history.proofs.Run.{afresh-answers}
 
 -- ---- an addition adds a record, and a removal leaves none for its pair
 
-add-changes : (f : Form) (l : FormLaws f) (w : List ℕ) (place client wish : ℕ) → addSays f w place client wish ≡ granted tt → added f place client wish w ≡ w → ⊥
+add-changes : (f : Form) (l : FormLaws f) (w : List ℕ) (place client wish : ℕ) → addSays f w place client wish ≡ granted tt
+    → added f place client wish w ≡ w → ⊥
 add-changes f l w place client wish e q =
     let r : Rec = recOf f place client wish in
     let n : length (recs w) ≡ 1 + length (recs w) =
@@ -45,18 +46,19 @@ none-for f place client s =
     some-tally (isFor f place client) (keep (λ r. not (isFor f place client r)) s)
     ∙ ap (ltb 0) (tally-keep (isFor f place client) (λ r. not (isFor f place client r)) s ∙ zero-both (isFor f place client) s)
 
-remove-changes : (f : Form) (w : List ℕ) (place client : ℕ) → removeSays f w place client ≡ granted tt → removed f place client w ≡ w → ⊥
-remove-changes f w place client e q =
+remove-changes : (f : Form) → FormLaws f → (w : List ℕ) (place client : ℕ) → removeSays f w place client ≡ granted tt
+    → removed f place client w ≡ w → ⊥
+remove-changes f l w place client e q =
     let o = remove-open f w place client e in
     no-both (stands f place client (recs w)) (o .there)
     (ap (λ (b : List ℕ). stands f place client (recs b)) (sym q)
-    ∙ ap (stands f place client) (recs-removed f w place client (o .keeps))
+    ∙ ap (stands f place client) (recs-removed f l w place client (o .keeps))
     ∙ none-for f place client (recs w))
 
 pub changes : (f : Form) (l : FormLaws f) (w : List ℕ) (e : Edit) → answer f w e ≡ granted tt → edited f w e ≡ w → ⊥
 unfolding answer edited
 changes f l w (adds place client wish) e q = add-changes f l w place client wish e (rw e at q)
-changes f l w (removes place client) e q = remove-changes f w place client e (rw e at q)
+changes f l w (removes place client) e q = remove-changes f l w place client e (rw e at q)
 
 -- ---- client 7 may watch place 039051 for class 1
 
@@ -64,8 +66,8 @@ free : number [] (adds 39051 7 1) ≡ granted tt
 unfolding number standsIn fullOf badClient badPlace badWish
 free = refl
 
-pub some-addition : (f : Form) → answer f empty (adds 39051 7 1) ≡ granted tt
-some-addition f = afresh-answers f [] empty (empty-afresh f) (adds 39051 7 1) ∙ free
+pub some-addition : (f : Form) → FormLaws f → answer f empty (adds 39051 7 1) ≡ granted tt
+some-addition f l = afresh-answers f l [] empty (empty-afresh f l) (adds 39051 7 1) ∙ free
 
 -- ---- a book that is not good
 

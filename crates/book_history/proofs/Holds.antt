@@ -1,4 +1,4 @@
--- Sound records that hold some subscriptions, put in and taken out one at a time. Assumes nothing.
+-- Sound records hold some subscriptions if every test passes as often among both: putting in and leaving out keep that.
 use mathlib.Core.Path.{_≡_, refl, sym, ap, _∙_}
 use mathlib.Core.Bool.{Bool, true, false, _&&_, not}
 use mathlib.Core.List.{List, [], _∷_, map}
@@ -11,10 +11,11 @@ use Rattle.laws.proofs.Tally.{tally-map}
 use Rattle.laws.proofs.Counting.{some-tally, tally-true, tally-keep, tally-cons, length-map}
 use Rattle.place.specs.FirstWord.{badPlace}
 use Rattle.book_rules.specs.Form.{Form, FormLaws}
-use Rattle.book_rules.specs.Rules.{Rec, rank, recs, layout}
+use Rattle.book_rules.specs.Rules.{Rec, recs, layout}
+use Rattle.book_rules.specs.Steps.{rank}
 use Rattle.book_rules.specs.Edits.{recOf, isFor, stands, insert, without}
-use Rattle.book_rules.specs.Load.{Sub, sub}
-use Rattle.book_rules.specs.Afresh.{subOf, subs, sameSub, times, Afresh, isPair, InRange}
+use Rattle.book_rules.specs.Subscription.{Sub, sub, sameSub, howOften, isPair, InRange}
+use Rattle.book_rules.specs.Afresh.{subOf, subs, Afresh}
 use Rattle.book_rules.specs.History.{standsIn}
 use Rattle.book_rules.proofs.Good.{good-says}
 use Rattle.book_rules.proofs.Sound.{Sound}
@@ -50,7 +51,8 @@ holds-length f list s h =
 -- ---- one more
 
 module _ (f : Form) (l : FormLaws f) (place client wish : ℕ) (range : InRange (sub place client wish)) where
-  pub holds-insert : (list : List Sub) (s : List Rec) → Holds f list s → standsIn place client list ≡ false → Holds f (sub place client wish ∷ list) (insert f (recOf f place client wish) s)
+  pub holds-insert : (list : List Sub) (s : List Rec) → Holds f list s → standsIn place client list ≡ false
+      → Holds f (sub place client wish ∷ list) (insert f (recOf f place client wish) s)
   holds-insert list s h free =
       let r : Rec = recOf f place client wish in
       let off : stands f place client s ≡ false = holds-stands f place client (range .place) list s h ∙ free in
@@ -89,18 +91,18 @@ module _ (f : Form) (place client : ℕ) (bp : badPlace place ≡ false) where
 
 -- ---- records and books
 
-pub holds-book : (f : Form) (list : List Sub) (s : List Rec) → Holds f list s → length list ≤ 4096 → Afresh f list (layout s)
-unfolding subs times
-holds-book f list s h few =
+pub holds-book : (f : Form) → FormLaws f → (list : List Sub) (s : List Rec) → Holds f list s → length list ≤ 4096 → Afresh f list (layout s)
+unfolding subs howOften
+holds-book f l list s h few =
     let k : length s ≤ 4096 = omega (arith, holds-length f list s h) in
     record {
-      keeps = layout-good f s (h .sound) k;
+      keeps = layout-good f s (h .sound) l k;
       exactly = λ x. ap (λ (q : List Rec). tally (sameSub x) (map (subOf f) q)) (recs-layout f s (h .sound) k) ∙ h .alike (sameSub x);
     }
 
-pub afresh-holds : (f : Form) (list : List Sub) (w : List ℕ) → Afresh f list w → Holds f list (recs w)
+pub afresh-holds : (f : Form) → FormLaws f → (list : List Sub) (w : List ℕ) → Afresh f list w → Holds f list (recs w)
 unfolding subs
-afresh-holds f list w a = record {
-  sound = good-sound f w (good-says f w (a .keeps));
+afresh-holds f l list w a = record {
+  sound = good-sound f l w (good-says f w (a .keeps));
   alike = same-tallies (map (subOf f) (recs w)) list (a .exactly);
 }

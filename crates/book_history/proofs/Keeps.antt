@@ -1,4 +1,4 @@
--- Lists of subscriptions in rising order: what is kept of one, and that one is known by its members. Assumes nothing.
+-- A list in strictly rising order is known by its members, so two that agree on a test keep the same of it.
 use mathlib.Core.Path.{_≡_, refl, sym, ap, _∙_}
 use mathlib.Core.Logic.{⊎-elim}
 use mathlib.Core.Bool.{Bool, true, false, _&&_, _||_}
@@ -11,8 +11,8 @@ use Rattle.laws.specs.Lists.{keep, tally}
 use Rattle.laws.specs.Order.{choose}
 use Rattle.laws.proofs.Tests.{and-l, and-r, le-or-lt, no-both}
 use Rattle.place.specs.FirstWord.{firstWord}
-use Rattle.book_rules.specs.Load.{Sub}
-use Rattle.book_rules.specs.Afresh.{sameSub, isPair, Apart, none, more}
+use Rattle.book_rules.specs.Subscription.{Sub, sameSub, isPair}
+use Rattle.book_rules.specs.Afresh.{Apart, none, more}
 use Rattle.book_history.specs.Members.{isIn, rankSub, Rise}
 use Rattle.book_history.proofs.Same.{same-refl, same-eq}
 
@@ -72,7 +72,8 @@ in-none : (y : Sub) → isIn y [] ≡ false
 unfolding isIn
 in-none y = refl
 
-same-tail : (x : Sub) (s t : List Sub) → Rise (rankSub x) s → Rise (rankSub x) t → ((z : Sub) → isIn z (x ∷ s) ≡ isIn z (x ∷ t)) → (z : Sub) → isIn z s ≡ isIn z t
+same-tail : (x : Sub) (s t : List Sub) → Rise (rankSub x) s → Rise (rankSub x) t → ((z : Sub) → isIn z (x ∷ s) ≡ isIn z (x ∷ t))
+    → (z : Sub) → isIn z s ≡ isIn z t
 unfolding isIn
 same-tail x s t hs ht e z = by (sameSub z x) refl (e z)
   where

@@ -1,14 +1,15 @@
--- A load over any book is its additions to an empty one, and the book built afresh from its items. Assumes nothing.
+-- A load over a good book is its additions to an empty one; those that are all granted are the items of the one book built afresh.
 use mathlib.Core.Path.{_≡_, refl, sym, ap, _∙_, subst}
 use mathlib.Core.Bool.{Bool, true, false}
 use mathlib.Core.List.{List}
 use Prim.Native.Nat.{ℕ}
-use native.Mathlib.Omega.{arith}
 use Rattle.laws.specs.Order.{Said, granted, refused, refusedAt}
+use Rattle.laws.proofs.Clash.{clash}
 use Rattle.book_rules.specs.Form.{Form, FormLaws}
 use Rattle.book_rules.specs.Rules.{good, empty}
-use Rattle.book_rules.specs.Load.{Sub, items, addAll, loadSays}
-use Rattle.book_rules.specs.Afresh.{times, Afresh, Valid, built}
+use Rattle.book_rules.specs.Subscription.{Sub, howOften}
+use Rattle.book_rules.specs.Load.{items, addAll, loadSays}
+use Rattle.book_rules.specs.Afresh.{Afresh, Valid, built}
 use Rattle.book_rules.specs.History.{bookAfter}
 use Rattle.book_history.specs.Adding.{additions, AllGranted}
 use Rattle.book_history.specs.Statements.{LoadIsAdding, LoadIsBuilding}
@@ -30,7 +31,7 @@ module _ (f : Form) (w list : List ℕ) where
   load-granted b e = by (good f w) refl
     where
       never : refused 16 ≡ granted b → ⊥
-      never q = let z : _≡_ {A = ℕ} 0 1 = cc in omega arith
+      never q = clash cc
 
       by : (t : Bool) → good f w ≡ t → addAll f empty (items list) ≡ granted b
       by true g = sym (load-good g) ∙ e
@@ -40,7 +41,7 @@ module _ (f : Form) (w list : List ℕ) where
   load-index n i e = by (good f w) refl
     where
       never : _≡_ {A = Said (List ℕ)} (refused 16) (refusedAt n i) → ⊥
-      never q = let z : _≡_ {A = ℕ} 0 1 = cc in omega arith
+      never q = clash cc
 
       by : (t : Bool) → good f w ≡ t → addAll f empty (items list) ≡ refusedAt n i
       by true g = sym (load-good g) ∙ e
@@ -83,7 +84,8 @@ module _ (f : Form) (l : FormLaws f) (w list : List ℕ) where
 -- ---- in another order
 
 -- items that are granted in one order are granted in any, and leave the same book
-pub any-order : (f : Form) → FormLaws f → (a b : List Sub) (w : List ℕ) → ((x : Sub) → times x a ≡ times x b) → addAll f empty a ≡ granted w → addAll f empty b ≡ granted w
+pub any-order : (f : Form) → FormLaws f → (a b : List Sub) (w : List ℕ) → ((x : Sub) → howOften x a ≡ howOften x b)
+    → addAll f empty a ≡ granted w → addAll f empty b ≡ granted w
 unfolding bookAfter
 any-order f l a b w e g =
     let k = only-granted f a empty w g in

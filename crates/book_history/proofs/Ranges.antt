@@ -1,4 +1,4 @@
--- Subscriptions in range and with no pair twice, told by tallies alone. Assumes nothing.
+-- Subscriptions in range and with no pair twice are told by tallies alone, so a list with the same tallies is valid too.
 use mathlib.Core.Path.{_≡_, refl, sym, ap, _∙_}
 use mathlib.Core.Bool.{Bool, true, false, _||_}
 use mathlib.Core.List.{List, [], _∷_}
@@ -11,8 +11,8 @@ use Rattle.laws.proofs.Tests.{and-l, and-r, or-l, or-r}
 use Rattle.laws.proofs.Counting.{tally-true, one-none}
 use Rattle.place.specs.FirstWord.{badPlace}
 use Rattle.book_rules.specs.Form.{badClient, badWish}
-use Rattle.book_rules.specs.Load.{Sub}
-use Rattle.book_rules.specs.Afresh.{isPair, InRange, Apart, none, more, Valid}
+use Rattle.book_rules.specs.Subscription.{Sub, isPair, InRange}
+use Rattle.book_rules.specs.Afresh.{Apart, none, more, Valid}
 
 -- out of range in some way
 abbrev pub outside : Sub → Bool
@@ -49,7 +49,8 @@ apart-once place client (more {x} {list} r n k) = by (isPair place client x) ref
     by true e h =
         let p : x .place ≡ place = eqb-true (x .place) place (and-l (eqb (x .place) place) (eqb (x .client) client) e) in
         let c : x .client ≡ client = eqb-true (x .client) client (and-r (eqb (x .place) place) (eqb (x .client) client) e) in
-        let z : tally (isPair place client) list ≡ 0 = ap (λ (m : ℕ). tally (isPair m client) list) (sym p) ∙ ap (λ (m : ℕ). tally (isPair (x .place) m) list) (sym c) ∙ n in
+        let z : tally (isPair place client) list ≡ 0 =
+        ap (λ (m : ℕ). tally (isPair m client) list) (sym p) ∙ ap (λ (m : ℕ). tally (isPair (x .place) m) list) (sym c) ∙ n in
         omega arith
     by false e h = omega arith
 

@@ -1,4 +1,4 @@
--- A run of edits, edit by edit: each gets the number that what stands gives, and leaves the book of what then stands. Assumes nothing.
+-- Edit by edit the book stays the one built afresh from what stands; so each edit finds the rows that what stands gives.
 use mathlib.Core.Path.{_≡_, refl, sym, ap, _∙_}
 use mathlib.Core.Bool.{Bool, true, false, not}
 use mathlib.Core.List.{List, [], _∷_}
@@ -14,8 +14,8 @@ use Rattle.place.specs.FirstWord.{badPlace}
 use Rattle.book_rules.specs.Form.{Form, FormLaws}
 use Rattle.book_rules.specs.Rules.{Rec, recs}
 use Rattle.book_rules.specs.Edits.{recOf, full, addSays, added, insert, removeSays, removed, without}
-use Rattle.book_rules.specs.Load.{Sub, sub}
-use Rattle.book_rules.specs.Afresh.{Afresh, InRange, isPair}
+use Rattle.book_rules.specs.Subscription.{Sub, sub, InRange, isPair}
+use Rattle.book_rules.specs.Afresh.{Afresh}
 use Rattle.book_rules.specs.History.{Edit, adds, removes, answer, edited, after, standsIn, fullOf, number, effect, standingFrom}
 use Rattle.book_rules.proofs.Edited.{AddOpen, add-open, remove-open, not-full}
 use Rattle.book_history.proofs.Afresh.{afresh-valid}
@@ -27,7 +27,7 @@ pub holds-full : (f : Form) (list : List Sub) (s : List Rec) → Holds f list s 
 unfolding full fullOf
 holds-full f list s h = ap (leb 4096) (holds-length f list s h)
 
-module _ (f : Form) (list : List Sub) (w : List ℕ) (a : Afresh f list w) where
+module _ (f : Form) (l : FormLaws f) (list : List Sub) (w : List ℕ) (a : Afresh f list w) where
   same-add : (place client wish : ℕ) → addSays f w place client wish ≡ number list (adds place client wish)
   unfolding addSays number
   same-add place client wish = by (badPlace place) refl
@@ -35,7 +35,7 @@ module _ (f : Form) (list : List Sub) (w : List ℕ) (a : Afresh f list w) where
       by : (b : Bool) → badPlace place ≡ b → addSays f w place client wish ≡ number list (adds place client wish)
       by true e = simp (a .keeps, e)
       by false e =
-          simp (a .keeps, e, holds-stands f place client e list (recs w) (afresh-holds f list w a), holds-full f list (recs w) (afresh-holds f list w a))
+          simp (a .keeps, e, holds-stands f place client e list (recs w) (afresh-holds f l list w a), holds-full f list (recs w) (afresh-holds f l list w a))
 
   same-remove : (place client : ℕ) → removeSays f w place client ≡ number list (removes place client)
   unfolding removeSays number
@@ -43,7 +43,7 @@ module _ (f : Form) (list : List Sub) (w : List ℕ) (a : Afresh f list w) where
     where
       by : (b : Bool) → badPlace place ≡ b → removeSays f w place client ≡ number list (removes place client)
       by true e = simp (a .keeps, e)
-      by false e = simp (a .keeps, e, holds-stands f place client e list (recs w) (afresh-holds f list w a))
+      by false e = simp (a .keeps, e, holds-stands f place client e list (recs w) (afresh-holds f l list w a))
 
   -- the number that an edit gets is the one that what stands gives
   pub afresh-answers : (e : Edit) → answer f w e ≡ number list e
@@ -65,28 +65,30 @@ module _ (f : Form) (l : FormLaws f) (list : List Sub) (w : List ℕ) (a : Afres
   unfolding added
   granted-add place client wish e =
       let o : AddOpen f w place client wish = add-open f w place client wish e in
-      let h : Holds f list (recs w) = afresh-holds f list w a in
+      let h : Holds f list (recs w) = afresh-holds f l list w a in
       let range : InRange (sub place client wish) = record { place = o .place-ok; client = o .client-ok; wish = o .wish-ok } in
       let free : standsIn place client list ≡ false = sym (holds-stands f place client (o .place-ok) list (recs w) h) ∙ o .free in
       let room : length (sub place client wish ∷ list) ≤ 4096 = omega (arith, not-full (recs w) (o .room), holds-length f list (recs w) h) in
-      holds-book f (sub place client wish ∷ list) (insert f (recOf f place client wish) (recs w)) (holds-insert f l place client wish range list (recs w) h free) room
+      let one-more = holds-insert f l place client wish range list (recs w) h free in
+      holds-book f l (sub place client wish ∷ list) (insert f (recOf f place client wish) (recs w)) one-more room
 
-  granted-remove : (place client : ℕ) → removeSays f w place client ≡ granted tt → Afresh f (keep (λ x. not (isPair place client x)) list) (removed f place client w)
+  granted-remove : (place client : ℕ) → removeSays f w place client ≡ granted tt
+      → Afresh f (keep (λ x. not (isPair place client x)) list) (removed f place client w)
   unfolding removed
   granted-remove place client e =
       let few : length list ≤ 4096 = afresh-valid f l list w a .few in
-      let h : Holds f list (recs w) = afresh-holds f list w a in
+      let h : Holds f list (recs w) = afresh-holds f l list w a in
       let rest : Sub → Bool = λ x. not (isPair place client x) in
-      holds-book f (keep rest list) (without f place client (recs w)) (holds-without f place client (remove-open f w place client e .place-ok) list (recs w) h)
-      (omega (arith, length-keep rest list, tally-le rest list))
+      let one-less = holds-without f place client (remove-open f w place client e .place-ok) list (recs w) h in
+      holds-book f l (keep rest list) (without f place client (recs w)) one-less (omega (arith, length-keep rest list, tally-le rest list))
 
   pub afresh-edited : (e : Edit) → Afresh f (leaves (λ u. effect e) (number list e) list) (edited f w e)
   unfolding edited
   afresh-edited (adds place client wish) =
-      rw (← same-add f list w a place client wish)
+      rw (← same-add f l list w a place client wish)
       (over f list w a (addSays f w place client wish) (effect (adds place client wish)) (added f place client wish) (granted-add place client wish))
   afresh-edited (removes place client) =
-      rw (← same-remove f list w a place client)
+      rw (← same-remove f l list w a place client)
       (over f list w a (removeSays f w place client) (effect (removes place client)) (removed f place client) (granted-remove place client))
 
 -- ---- a run

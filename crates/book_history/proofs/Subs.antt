@@ -1,4 +1,4 @@
--- A record and its subscription: each from the other, by place and client, and in the same order. Assumes nothing.
+-- A record and its subscription, each from the other: place and first word go back and forth, so pairs and order are the same.
 use mathlib.Core.Path.{_≡_, refl, sym, ap, _∙_}
 use mathlib.Core.Bool.{Bool, true, false, _&&_}
 use mathlib.Core.List.{List, [], _∷_, map}
@@ -11,10 +11,11 @@ use Rattle.place.specs.Place.{state}
 use Rattle.place.specs.FirstWord.{firstWord, placeOf, stateOf, badPlace}
 use Rattle.place.proofs.Words.{fine, place-back, word-back, place-state}
 use Rattle.book_rules.specs.Form.{Form, FormLaws, badWish}
-use Rattle.book_rules.specs.Rules.{Rec, rank, okRec}
+use Rattle.book_rules.specs.Rules.{Rec, okRec}
+use Rattle.book_rules.specs.Steps.{rank}
 use Rattle.book_rules.specs.Edits.{recOf, isFor}
-use Rattle.book_rules.specs.Load.{Sub, sub}
-use Rattle.book_rules.specs.Afresh.{subOf, isPair, InRange}
+use Rattle.book_rules.specs.Subscription.{Sub, sub, isPair, InRange}
+use Rattle.book_rules.specs.Afresh.{subOf}
 use Rattle.book_rules.proofs.Form.{wish-fits, client-fine, wish-fine}
 use Rattle.book_rules.proofs.Laid.{rec-eq}
 use Rattle.book_rules.proofs.Sound.{Sound}

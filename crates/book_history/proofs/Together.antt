@@ -1,4 +1,4 @@
--- Subscriptions added in order: those that are all granted are the book's, and those that could stand together are all granted. Assumes nothing.
+-- Those still to be added and those that stand fit together at each turn, so each is granted; and what is granted is held.
 use mathlib.Core.Path.{_≡_, sym, ap, _∙_}
 use mathlib.Core.Bool.{false}
 use mathlib.Core.List.{List, [], _∷_}
@@ -12,8 +12,8 @@ use Rattle.laws.specs.Lists.{tally, one, some}
 use Rattle.laws.proofs.Counting.{some-tally, one-none}
 use Rattle.book_rules.specs.Form.{Form, FormLaws}
 use Rattle.book_rules.specs.Rules.{empty}
-use Rattle.book_rules.specs.Load.{Sub}
-use Rattle.book_rules.specs.Afresh.{subs, times, Afresh, isPair, InRange, Valid}
+use Rattle.book_rules.specs.Subscription.{Sub, howOften, isPair, InRange}
+use Rattle.book_rules.specs.Afresh.{subs, Afresh, Valid}
 use Rattle.book_rules.specs.History.{answer, edited, after, bookAfter, standsIn, fullOf, number}
 use Rattle.book_history.specs.Adding.{addition, additions, AllGranted, none, more}
 use Rattle.book_history.proofs.Ranges.{outside, in-range, pair-refl, apart-inside, apart-once}
@@ -26,22 +26,22 @@ module _ (f : Form) (l : FormLaws f) where
   -- a granted addition puts its subscription to those that stood
   one-more : (base : List Sub) (w : List ℕ) (y : Sub) → Afresh f base w → answer f w (addition y) ≡ granted tt → Afresh f (y ∷ base) (edited f w (addition y))
   one-more base w y a e =
-      let n : number base (addition y) ≡ granted tt = sym (afresh-answers f base w a (addition y)) ∙ e in
+      let n : number base (addition y) ≡ granted tt = sym (afresh-answers f l base w a (addition y)) ∙ e in
       rw n at (afresh-edited f l base w a (addition y))
 
   added-times : (list base : List Sub) (w : List ℕ) → Afresh f base w → AllGranted f w (additions list)
-      → (x : Sub) → times x (subs f (after f w (additions list))) ≡ times x list + times x base
-  unfolding times tally after
+      → (x : Sub) → howOften x (subs f (after f w (additions list))) ≡ howOften x list + howOften x base
+  unfolding howOften tally after
   added-times [] base w a none x = a .exactly x ∙ omega arith
   added-times (y ∷ list) base w a (more e k) x =
       let i = added-times list (y ∷ base) (edited f w (addition y)) (one-more base w y a e) k x in
       omega arith
 
   pub added-afresh : (list : List Sub) → AllGranted f empty (additions list) → Afresh f list (bookAfter f (additions list))
-  unfolding bookAfter times tally
+  unfolding bookAfter howOften tally
   added-afresh list k = record {
-    keeps = afresh-after f l (additions list) [] empty (empty-afresh f) .keeps;
-    exactly = λ x. added-times list [] empty (empty-afresh f) k x ∙ omega arith;
+    keeps = afresh-after f l (additions list) [] empty (empty-afresh f l) .keeps;
+    exactly = λ x. added-times list [] empty (empty-afresh f l) k x ∙ omega arith;
   }
 
 -- ---- what could stand together is granted
@@ -60,7 +60,8 @@ fits-more y list base h = record {
   few = let k = h .few in omega arith;
 }
 
-number-granted : (base : List Sub) (y : Sub) → InRange y → standsIn (y .place) (y .client) base ≡ false → fullOf base ≡ false → number base (addition y) ≡ granted tt
+number-granted : (base : List Sub) (y : Sub) → InRange y → standsIn (y .place) (y .client) base ≡ false → fullOf base ≡ false
+    → number base (addition y) ≡ granted tt
 unfolding number
 number-granted base y r free room = simp (r .client, r .place, r .wish, free, room)
 
@@ -78,13 +79,13 @@ module _ (f : Form) (l : FormLaws f) where
   in-turn : (list base : List Sub) (w : List ℕ) → Afresh f base w → Fits list base → AllGranted f w (additions list)
   in-turn [] base w a h = none
   in-turn (y ∷ list) base w a h =
-      let e : answer f w (addition y) ≡ granted tt = afresh-answers f base w a (addition y) ∙ fits-number y list base h in
+      let e : answer f w (addition y) ≡ granted tt = afresh-answers f l base w a (addition y) ∙ fits-number y list base h in
       more e (in-turn list (y ∷ base) (edited f w (addition y)) (one-more f l base w y a e) (fits-more y list base h))
 
   pub together-granted : (list : List Sub) → Valid list → AllGranted f empty (additions list)
   unfolding tally
   together-granted list v =
-      in-turn list [] empty (empty-afresh f)
+      in-turn list [] empty (empty-afresh f l)
       (record {
         inside = apart-inside (v .apart);
         once = λ place client. let k = apart-once place client (v .apart) in omega arith;

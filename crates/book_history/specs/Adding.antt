@@ -5,7 +5,7 @@ use mathlib.Core.Path.{_≡_}
 use mathlib.Core.List.{List, [], _∷_, map}
 use Rattle.laws.specs.Order.{granted, refused}
 use Rattle.book_rules.specs.Form.{Form}
-use Rattle.book_rules.specs.Load.{Sub}
+use Rattle.book_rules.specs.Subscription.{Sub}
 use Rattle.book_rules.specs.History.{Edit, adds, answer, edited}
 
 -- the addition of an item

@@ -6,8 +6,7 @@ use mathlib.Core.Bool.{Bool}
 use mathlib.Core.List.{List, [], _∷_}
 use Rattle.laws.specs.Lists.{some}
 use Rattle.place.specs.FirstWord.{firstWord}
-use Rattle.book_rules.specs.Load.{Sub}
-use Rattle.book_rules.specs.Afresh.{sameSub, InRange}
+use Rattle.book_rules.specs.Subscription.{Sub, sameSub, InRange}
 use Rattle.book_rules.specs.Steps.{rankOf}
 
 -- a subscription stands in a list

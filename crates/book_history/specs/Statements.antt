@@ -7,8 +7,9 @@ use Rattle.laws.specs.Order.{granted, refused, refusedAt}
 use Rattle.laws.specs.Lists.{tally, keep}
 use Rattle.book_rules.specs.Form.{Form}
 use Rattle.book_rules.specs.Rules.{good, empty}
-use Rattle.book_rules.specs.Load.{Sub, items, loadSays}
-use Rattle.book_rules.specs.Afresh.{subs, times, Afresh, isPair, InRange, Valid, built}
+use Rattle.book_rules.specs.Subscription.{Sub, howOften, isPair, InRange}
+use Rattle.book_rules.specs.Load.{items, loadSays}
+use Rattle.book_rules.specs.Afresh.{subs, Afresh, Valid, built}
 use Rattle.book_rules.specs.History.{Edit, adds, answer, edited, after, bookAfter, number, standingFrom, standing}
 use Rattle.book_history.specs.Members.{isIn, rankSub, Rise, Before}
 use Rattle.book_history.specs.Adding.{additions, AllGranted, FirstRefused}
@@ -17,7 +18,7 @@ use Rattle.book_history.specs.Adding.{additions, AllGranted, FirstRefuse
 
 pub record TheBook (f : Form) : Type 0 where
   -- there is only one, in every word, in whatever order they are given
-  pub one-book : (a b : List Sub) (w u : List ℕ) → ((x : Sub) → times x a ≡ times x b) → Afresh f a w → Afresh f b u → w ≡ u
+  pub one-book : (a b : List Sub) (w u : List ℕ) → ((x : Sub) → howOften x a ≡ howOften x b) → Afresh f a w → Afresh f b u → w ≡ u
   -- there is one where each is in range, no pair of place and client stands twice and they are at most 4,096
   pub some-book : (list : List Sub) → Valid list → Afresh f list (built f list)
   -- and only there
@@ -42,7 +43,8 @@ pub record History (f : Form) : Type 0 where
   pub tallies : (run : List Edit) (t : Sub → Bool) → tally t (subs f (bookAfter f run)) ≡ tally t (standing run)
   pub members : (run : List Edit) (x : Sub) → isIn x (subs f (bookAfter f run)) ≡ isIn x (standing run)
   -- runs that agree on what passes a test leave books that hold the same of it, in the same order
-  pub agree : (t : Sub → Bool) (h k : List Edit) → ((x : Sub) → t x && isIn x (standing h) ≡ t x && isIn x (standing k)) → keep t (subs f (bookAfter f h)) ≡ keep t (subs f (bookAfter f k))
+  pub agree : (t : Sub → Bool) (h k : List Edit) → ((x : Sub) → t x && isIn x (standing h) ≡ t x && isIn x (standing k))
+      → keep t (subs f (bookAfter f h)) ≡ keep t (subs f (bookAfter f k))
 
 -- the same from any book: a good one, and one that is not
 pub record HistoryFrom (f : Form) (w : List ℕ) : Type 0 where
@@ -72,7 +74,8 @@ pub record LoadIsAdding (f : Form) (w list : List ℕ) : Type 0 where
   pub bad : good f w ≡ false → loadSays f w list ≡ refused 16
   -- else granted exactly if each addition is granted in its turn, leaving the book after them
   pub grants : good f w ≡ true → AllGranted f empty (additions (items list)) → loadSays f w list ≡ granted (bookAfter f (additions (items list)))
-  pub granted-only : good f w ≡ true → (b : List ℕ) → loadSays f w list ≡ granted b → AllGranted f empty (additions (items list)) × (b ≡ bookAfter f (additions (items list)))
+  pub granted-only : good f w ≡ true → (b : List ℕ) → loadSays f w list ≡ granted b
+      → AllGranted f empty (additions (items list)) × (b ≡ bookAfter f (additions (items list)))
   -- else refused with the number of the first that is not
   pub refuses : good f w ≡ true → (n : ℕ) → FirstRefused f n empty (additions (items list)) → loadSays f w list ≡ refused n
   pub refused-only : good f w ≡ true → (n : ℕ) → loadSays f w list ≡ refused n → FirstRefused f n empty (additions (items list))

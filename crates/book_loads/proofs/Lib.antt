@@ -3,4 +3,3 @@ pub mod Below
 pub mod Written
 pub mod Laid
 pub mod Loads
-pub mod NoChoice

@@ -1,8 +1,9 @@
--- Two answers that meet a promise are equal. Assumes nothing.
+-- Each promise says what the answer is equal to, so two answers that meet it are equal to each other.
 use Prim.Native.Nat.{ℕ}
 use mathlib.Core.Bool.{Bool}
 use mathlib.Core.Path.{_≡_, sym, _∙_}
-use Rattle.book_records.specs.Promise.{BadClientPromise, BadWishPromise, ClientOfPromise, WishOfPromise, MarkOrNonePromise, RankOfPromise, RankOrNonePromise}
+use Rattle.book_records.specs.Promise.{BadClientPromise, BadWishPromise, ClientOfPromise, WishOfPromise}
+use Rattle.book_records.specs.Promise.{MarkOrNonePromise, RankOfPromise, RankOrNonePromise}
 
 pub bad-client-no-choice : (client : ℕ) (r q : Bool) → BadClientPromise client r → BadClientPromise client q → r ≡ q
 bad-client-no-choice client r q a b = a .says ∙ sym (b .says)

@@ -2,7 +2,7 @@
 use Prim.Native.Nat.{ℕ, _+_, _*_}
 use mathlib.Core.Bool.{Bool}
 use mathlib.Core.Path.{_≡_}
-use Rattle.book_rules.specs.Form.{plain, badClient, badWish}
+use Rattle.book_rules.specs.Form.{form, badClient, badWish}
 use Rattle.book_records.specs.Ranks.{rankOrNone}
 use Rattle.book_records.specs.Marks.{markOrNone}
 
@@ -13,10 +13,10 @@ pub record BadWishPromise (wish : ℕ) (r : Bool) : Type 0 where
   pub says : r ≡ badWish wish
 
 pub record ClientOfPromise (mark r : ℕ) : Type 0 where
-  pub says : r ≡ plain .who mark
+  pub says : r ≡ form .who mark
 
 pub record WishOfPromise (mark r : ℕ) : Type 0 where
-  pub says : r ≡ plain .wish mark
+  pub says : r ≡ form .wish mark
 
 pub record MarkOrNonePromise (client wish r : ℕ) : Type 0 where
   pub says : r ≡ markOrNone client wish

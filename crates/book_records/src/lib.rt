@@ -1,11 +1,11 @@
 // The words of a record: its place's first word, and a second word of client and wish. Every function takes any words.
 ghost use mathlib.Core.Path.{_≡_};
 ghost use Prim.Native.Nat.{ℕ, _+_, _*_};
-ghost use Rattle.book_rules.specs.Form.{plain};
+ghost use Rattle.book_rules.specs.Form.{form};
 ghost use Rattle.book_rules.specs.Rules.{okRec};
 ghost use Rattle.book_records.specs.Promise.{BadClientPromise, BadWishPromise, ClientOfPromise, WishOfPromise, MarkOrNonePromise, RankOfPromise, RankOrNonePromise};
 
-// Whether a client is out of range.
+// Whether a client is out of 1 to 9,999.
 pub fn bad_client(client: u32) -> bool
     ensures { λ r. ⌜ BadClientPromise client r ⌝ }
 {
@@ -15,7 +15,7 @@ pub fn bad_client(client: u32) -> bool
     9999 < client
 }
 
-// Whether a wish is out of range.
+// Whether a wish is out of 1 to 63.
 pub fn bad_wish(wish: u32) -> bool
     ensures { λ r. ⌜ BadWishPromise wish r ⌝ }
 {
@@ -59,7 +59,7 @@ fn wide(x: u32) -> u64
     x as u64
 }
 
-// The rank of a first word and a client.
+// The rank of a first word and a client: first word × 10,000 + client.
 pub fn rank_of(first: u32, client: u32) -> u64
     ensures { λ r. ⌜ RankOfPromise first client r ⌝ }
 {
@@ -68,7 +68,7 @@ pub fn rank_of(first: u32, client: u32) -> u64
 
 // Whether the two words of a record are in range.
 fn ok_rec(first: u32, second: u32) -> bool
-    ensures { λ r. ⌜ r ≡ okRec plain (record { first = first; second = second }) ⌝ }
+    ensures { λ r. ⌜ r ≡ okRec form (record { first = first; second = second }) ⌝ }
 {
     let state = first / 10000;
     if state < 1 {

@@ -1,4 +1,4 @@
--- What a granted addition or removal needs, and that it leaves a good book with the records that it should. Assumes nothing.
+-- A granted edit is one for which no row holds; it leaves the layout of sound records, and that is a good book with just those.
 use mathlib.Core.Path.{_≡_, refl, sym, ap, _∙_}
 use mathlib.Core.Bool.{Bool, true, false, not}
 use mathlib.Core.List.{List, _∷_, _++_}
@@ -14,8 +14,8 @@ use Rattle.laws.proofs.Tally.{tally-append}
 use Rattle.laws.proofs.Counting.{tally-true}
 use Rattle.place.specs.FirstWord.{badPlace}
 use Rattle.book_rules.specs.Form.{Form, FormLaws, badClient, badWish}
-use Rattle.book_rules.specs.Rules.{Rec, recs, rank, good}
-use Rattle.book_rules.specs.Edits.{recOf, stands, full, addRows, addSays, insert, lower, added, removeRows, removeSays, without, removed}
+use Rattle.book_rules.specs.Rules.{Rec, recs, good}
+use Rattle.book_rules.specs.Edits.{recOf, stands, full, addRows, addSays, insert, ahead, added, removeRows, removeSays, without, removed}
 use Rattle.book_rules.proofs.Laid.{length-recs}
 use Rattle.book_rules.proofs.Good.{good-says}
 use Rattle.book_rules.proofs.Sound.{Sound}
@@ -83,7 +83,7 @@ module _ (f : Form) where
   pub tally-insert : (p : Rec → Bool) (r : Rec) (s : List Rec) → tally p (insert f r s) ≡ one (p r) + tally p s
   unfolding insert tally
   tally-insert p r s =
-      let k = lower f s (rank f r) in
+      let k = ahead f s r in
       let a = tally-append p (take k s) (r ∷ drop k s) in
       let b = tally-append p (take k s) (drop k s) in
       let c : tally p (take k s ++ drop k s) ≡ tally p s = ap (tally p) (take-append-drop k s) in
@@ -105,7 +105,7 @@ room-left s e = lt-leb 4096 (length s) e
 module _ (f : Form) (l : FormLaws f) (w : List ℕ) (place client wish : ℕ) (o : AddOpen f w place client wish) where
   pub insert-open : Sound f 0 (insert f (recOf f place client wish) (recs w))
   insert-open =
-      insert-fresh f l place client wish (recs w) (o .client-ok) (o .place-ok) (o .wish-ok) (good-sound f w (good-says f w (o .keeps))) (o .free)
+      insert-fresh f l place client wish (recs w) (o .client-ok) (o .place-ok) (o .wish-ok) (good-sound f l w (good-says f w (o .keeps))) (o .free)
 
   insert-few : length (insert f (recOf f place client wish) (recs w)) ≤ 4096
   insert-few = omega (arith, length-insert f (recOf f place client wish) (recs w), not-full (recs w) (o .room))
@@ -116,13 +116,13 @@ module _ (f : Form) (l : FormLaws f) (w : List ℕ) (place client wish : ℕ) (o
 
   pub added-good : good f (added f place client wish w) ≡ true
   unfolding added
-  added-good = layout-good f (insert f (recOf f place client wish) (recs w)) insert-open insert-few
+  added-good = layout-good f (insert f (recOf f place client wish) (recs w)) insert-open l insert-few
 
 -- ---- a removal
 
-module _ (f : Form) (w : List ℕ) (place client : ℕ) (keeps : good f w ≡ true) where
+module _ (f : Form) (l : FormLaws f) (w : List ℕ) (place client : ℕ) (keeps : good f w ≡ true) where
   h : Sound f 0 (recs w)
-  h = good-sound f w (good-says f w keeps)
+  h = good-sound f l w (good-says f w keeps)
 
   few : length (without f place client (recs w)) ≤ 4096
   few = let g = good-says f w keeps .few in omega (arith, length-without f place client (recs w), length-recs w)
@@ -133,4 +133,4 @@ module _ (f : Form) (w : List ℕ) (place client : ℕ) (keeps : good f w ≡ tr
 
   pub removed-good : good f (removed f place client w) ≡ true
   unfolding removed
-  removed-good = layout-good f (without f place client (recs w)) (without-sound f 0 place client (recs w) h) few
+  removed-good = layout-good f (without f place client (recs w)) (without-sound f 0 place client (recs w) h) l few

@@ -1,11 +1,11 @@
--- The form client × 64 + wish keeps what a form has to, and clients and wishes that are not bad are in range. Assumes nothing.
+-- The form client × 64 + wish keeps what a form has to, since a wish is below 64; what is not bad is in range.
 use Prim.Native.Nat.{ℕ, _+_, _*_, _/_, _%_, _≤_}
 use mathlib.Core.Path.{_≡_}
 use mathlib.Core.Bool.{false}
 use native.Mathlib.Omega.{arith}
 use Rattle.laws.specs.Numbers.{within}
 use Rattle.laws.proofs.Tests.{and-l, and-r, and-i, not-not, within-lo, within-hi, within-i}
-use Rattle.book_rules.specs.Form.{FormLaws, badClient, badWish, plain}
+use Rattle.book_rules.specs.Form.{FormLaws, badClient, badWish, form, clientAndWish}
 
 pub client-some : (client : ℕ) → badClient client ≡ false → 1 ≤ client
 unfolding badClient
@@ -39,9 +39,9 @@ high c v h = omega arith
 low : (c v : ℕ) → v ≤ 63 → (c * 64 + v) % 64 ≡ v
 low c v h = omega arith
 
-pub plain-laws : FormLaws plain
-unfolding plain
-plain-laws = record {
+pub form-laws : FormLaws form
+unfolding form clientAndWish
+form-laws = record {
   who-made = high;
   wish-made = low;
   made-fine = λ c v a b d e. rw (high c v e, low c v e) (and-i (within 1 9999 c) (within 1 63 v) (within-i 1 9999 c a b) (within-i 1 63 v d e));

@@ -1,4 +1,4 @@
--- What a good book keeps, by name; and that a good book is the layout of its records. Assumes nothing.
+-- What a good book keeps, by name. Counts, records and zeros are then fixed word by word, so a good book is the layout of its records.
 use mathlib.Core.Path.{_≡_, sym, ap, _∙_}
 use mathlib.Core.Bool.{true, _&&_}
 use mathlib.Core.List.{List, _++_}

@@ -1,4 +1,4 @@
--- The words of some records. Assumes nothing.
+-- Two words for each record: the words of two lists are those of one behind the other, and the records are read back from them.
 use mathlib.Core.Path.{_≡_, refl, sym, ap, _∙_, subst}
 use mathlib.Core.List.{List, [], _∷_, _++_, append-assoc}
 use Prim.Native.Nat.{ℕ, zero, suc, _+_, _*_, _≤_, _<_}
@@ -6,6 +6,7 @@ use native.Mathlib.Omega.{arith}
 use lib.ListN.{length, getD, take, drop}
 use lib.Seq.{slice, slice-empty, length-take-le, take-suc, drop-append-le}
 use Rattle.laws.specs.Lists.{table}
+use Rattle.laws.proofs.Clash.{clash}
 use Rattle.laws.proofs.Tables.{length-table}
 use Rattle.book_rules.specs.Rules.{Rec, recAt, recs, total, words}
 
@@ -25,8 +26,8 @@ rec-eq r q a b = λ i. record { first = a i; second = b i }
 pub words-inj : (s t : List Rec) → words s ≡ words t → s ≡ t
 unfolding words
 words-inj [] [] e = refl
-words-inj [] (q ∷ t) e = let z : _≡_ {A = ℕ} 0 1 = cc in absurd (omega arith)
-words-inj (r ∷ s) [] e = let z : _≡_ {A = ℕ} 0 1 = cc in absurd (omega arith)
+words-inj [] (q ∷ t) e = clash cc
+words-inj (r ∷ s) [] e = clash cc
 words-inj (r ∷ s) (q ∷ t) e =
     let a : r .first ≡ q .first = cc in
     let b : r .second ≡ q .second = cc in
@@ -45,8 +46,9 @@ words-recs zero w l = sym (slice-empty 101 w)
 words-recs (suc n) w l =
     let e : 101 + 2 * suc n ≡ suc (suc (101 + 2 * n)) = omega arith in
     let k : 102 + 2 * n ≡ suc (101 + 2 * n) = omega arith in
-    words-append (table n (recAt w)) (recAt w n ∷ [])
-    ∙ rw (words-recs n w (omega arith), e, k, slice-snoc 101 (suc (101 + 2 * n)) w (omega arith) (omega arith), slice-snoc 101 (101 + 2 * n) w (omega arith) (omega arith), append-assoc)
+    let second = slice-snoc 101 (suc (101 + 2 * n)) w (omega arith) (omega arith) in
+    let first = slice-snoc 101 (101 + 2 * n) w (omega arith) (omega arith) in
+    words-append (table n (recAt w)) (recAt w n ∷ []) ∙ rw (words-recs n w (omega arith), e, k, second, first, append-assoc)
 
 pub length-recs : (w : List ℕ) → length (recs w) ≡ total w
 unfolding recs

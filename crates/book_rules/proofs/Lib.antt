@@ -2,6 +2,7 @@ pub mod Form
 pub mod Laid
 pub mod Good
 pub mod Sound
+pub mod Pairs
 pub mod Whole
 pub mod Ranks
 pub mod Moves

@@ -1,4 +1,4 @@
--- A place and a client by their rank: whether a pair stands, and the records without it, told by ranks alone. Assumes nothing.
+-- A client is below 10,000, so a rank is one place and one client: a pair stands, and is left out, by its rank alone.
 use mathlib.Core.Path.{_≡_, refl, sym, ap, _∙_}
 use mathlib.Core.Logic.{_⊎_, inl, inr, ⊎-elim}
 use mathlib.Core.Bool.{true, false, _&&_, not}
@@ -16,11 +16,12 @@ use Rattle.laws.proofs.Tally.{length-keep, tally-le}
 use Rattle.place.specs.FirstWord.{firstWord, badPlace}
 use Rattle.place.proofs.Words.{word-low, word-high}
 use Rattle.book_rules.specs.Form.{Form, FormLaws, badClient, badWish}
-use Rattle.book_rules.specs.Rules.{Rec, rank, okRec}
+use Rattle.book_rules.specs.Rules.{Rec, okRec}
 use Rattle.book_rules.specs.Edits.{recOf, isFor, stands, insert, without}
-use Rattle.book_rules.specs.Steps.{rankOf, hasRank, butRank}
+use Rattle.book_rules.specs.Steps.{rankOf, hasRank, butRank, rank}
 use Rattle.book_rules.proofs.Form.{client-some, client-fits, wish-some, wish-fits}
 use Rattle.book_rules.proofs.Sound.{Sound, insert-sound, keep-sound}
+use Rattle.book_rules.proofs.Pairs.{insert-rank}
 use Rattle.book_rules.proofs.Whole.{ok-says, ok-from}
 
 -- a first word and a client in range are known by their rank
@@ -53,7 +54,8 @@ module _ (f : Form) (l : FormLaws f) where
 
   -- ---- of sound records
 
-  tally-for : (x place client : ℕ) (s : List Rec) → Sound f x s → client ≤ 9999 → tally (isFor f place client) s ≡ tally (λ r. eqb (rank f r) (rankOf place client)) s
+  tally-for : (x place client : ℕ) (s : List Rec) → Sound f x s → client ≤ 9999
+      → tally (isFor f place client) s ≡ tally (λ r. eqb (rank f r) (rankOf place client)) s
   unfolding tally
   tally-for x place client [] h k = refl
   tally-for x place client (r ∷ s) h k = rw (is-for place client r (h .0) k, tally-for (rank f r) place client s (h .2) k)
@@ -92,7 +94,8 @@ module _ (f : Form) (l : FormLaws f) where
       let k : rankOf place client ≡ rank f r = rank-of place client wish bw in
       let st : hasRank f s (rank f r) ≡ false = ap (hasRank f s) (sym k) ∙ sym (stands-rank 0 place client s h (client-fits client bc)) ∙ free in
       let c = client-some client bc in
-      insert-sound f 0 r s (ok-of place client wish bc bp bw) (omega arith) st h
+      let o : okRec f r ≡ true = ok-of place client wish bc bp bw in
+      rw (insert-rank f l 0 r s o h) (insert-sound f 0 r s o (omega arith) st h)
 
 -- ---- the records without a pair
 

@@ -22,8 +22,8 @@ unfoldable pub badWish : ℕ → Bool
 badWish wish = not (within 1 63 wish)
 
 -- client × 64 + wish
-unfoldable pub plain : Form
-plain = record {
+unfoldable pub clientAndWish : Form
+clientAndWish = record {
   who = λ m. m / 64;
   wish = λ m. m % 64;
   made = λ client wish. client * 64 + wish;
@@ -38,3 +38,7 @@ pub record FormLaws (f : Form) : Type 0 where
   pub fine-made : (m : ℕ) → f .fine m ≡ true → f .made (f .who m) (f .wish m) ≡ m
   pub fine-who : (m : ℕ) → f .fine m ≡ true → (1 ≤ f .who m) × (f .who m ≤ 9999)
   pub fine-wish : (m : ℕ) → f .fine m ≡ true → (1 ≤ f .wish m) × (f .wish m ≤ 63)
+
+-- the form that is in use
+unfoldable pub form : Form
+form = clientAndWish

@@ -1,17 +1,16 @@
 -- Demand 3: any run of additions and removals, granted or refused, in the order of time.
 use Prim.Native.Nat.{ℕ}
 use mathlib.Core.Bool.{Bool, not}
-use mathlib.Core.List.{List, [], _∷_, _++_}
+use mathlib.Core.List.{List, [], _∷_}
 use lib.ListN.{length}
 use lib.Dec.{leb}
-use Rattle.laws.specs.Order.{Said, granted, refused, _when_, inOrder}
+use Rattle.laws.specs.Order.{Said, granted, Row, inOrder}
 use Rattle.laws.specs.Lists.{some, keep}
 use Rattle.laws.specs.Space.{leaves}
-use Rattle.book_rules.specs.Form.{Form, badWish}
+use Rattle.book_rules.specs.Form.{Form}
 use Rattle.book_rules.specs.Rules.{empty}
-use Rattle.book_rules.specs.Edits.{who, placed, addSays, added, removeSays, removed}
-use Rattle.book_rules.specs.Load.{Sub, sub}
-use Rattle.book_rules.specs.Afresh.{isPair}
+use Rattle.book_rules.specs.Edits.{addingRows, removingRows, addSays, added, removeSays, removed}
+use Rattle.book_rules.specs.Subscription.{Sub, sub, isPair}
 
 pub data Edit : Type 0 where
   adds : ℕ → ℕ → ℕ → Edit
@@ -43,18 +42,13 @@ standsIn place client list = some (isPair place client) list
 unfoldable pub fullOf : List Sub → Bool
 fullOf list = leb 4096 (length list)
 
+-- the same rows as of a call on a book, but for 16
+abbrev pub editRows : List Sub → Edit → List (Row (Said (Unit {0})))
+editRows list (adds place client wish) = addingRows place client wish (standsIn place client list) (fullOf list)
+editRows list (removes place client) = removingRows place client (standsIn place client list)
+
 unfoldable pub number : List Sub → Edit → Said (Unit {0})
-number list (adds place client wish) =
-    inOrder
-    (who client
-    ++ (placed place
-    ++ (refused 19 when badWish wish
-    ∷ refused 20 when standsIn place client list
-    ∷ refused 22 when fullOf list
-    ∷ [])))
-    (granted tt)
-number list (removes place client) =
-    inOrder (who client ++ (placed place ++ (refused 21 when not (standsIn place client list) ∷ []))) (granted tt)
+number list e = inOrder (editRows list e) (granted tt)
 
 -- what a granted edit makes of what stands
 abbrev pub effect : Edit → List Sub → List Sub

@@ -1,4 +1,5 @@
 pub mod Form
+pub mod Subscription
 pub mod Rules
 pub mod Edits
 pub mod Steps

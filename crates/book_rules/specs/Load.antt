@@ -3,17 +3,9 @@ use Prim.Native.Nat.{ℕ}
 use mathlib.Core.List.{List, [], _∷_}
 use Rattle.laws.specs.Order.{Said, granted, inOrder, next}
 use Rattle.book_rules.specs.Form.{Form}
+use Rattle.book_rules.specs.Subscription.{Sub, sub}
 use Rattle.book_rules.specs.Rules.{empty}
-use Rattle.book_rules.specs.Edits.{sound, addSays, added}
-
--- a subscription, as asked for
-pub record Sub : Type 0 where
-  pub place : ℕ
-  pub client : ℕ
-  pub wish : ℕ
-
-abbrev pub sub : ℕ → ℕ → ℕ → Sub
-sub place client wish = record { place = place; client = client; wish = wish }
+use Rattle.book_rules.specs.Edits.{bookRow, addSays, added}
 
 -- PSSCCC, client, wish; one or two words left over are not read
 abbrev pub items : List ℕ → List Sub
@@ -29,4 +21,4 @@ addAll f w (x ∷ xs) = next (addSays f w (x .place) (x .client) (x .wish)) (λ 
 
 -- 16, then each item's
 unfoldable pub loadSays : Form → List ℕ → List ℕ → Said (List ℕ)
-loadSays f w list = inOrder (sound f w) (addAll f empty (items list))
+loadSays f w list = inOrder (bookRow f w) (addAll f empty (items list))

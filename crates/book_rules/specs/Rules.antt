@@ -1,6 +1,6 @@
 -- Paper 01, "The book": its rules, word by word.
 use Prim.Native.Nat.{ℕ, _+_, _-_, _*_}
-use mathlib.Core.Bool.{Bool, _&&_}
+use mathlib.Core.Bool.{Bool, _&&_, _||_}
 use mathlib.Core.List.{List, [], _∷_, _++_}
 use lib.ListN.{length, getD, replicate}
 use lib.Dec.{leb, ltb, eqb}
@@ -15,12 +15,12 @@ pub record Rec : Type 0 where
   pub second : ℕ
 
 -- SS of a record
-abbrev pub state : Rec → ℕ
-state r = stateOf (r .first)
+abbrev pub recState : Rec → ℕ
+recState r = stateOf (r .first)
 
--- (first word, client) as one number: a client is below 10,000
-abbrev pub rank : Form → Rec → ℕ
-rank f r = r .first * 10000 + f .who (r .second)
+-- (first word, client) of one record is below that of another
+unfoldable pub pairBelow : Form → Rec → Rec → Bool
+pairBelow f r q = ltb (r .first) (q .first) || (eqb (r .first) (q .first) && ltb (f .who (r .second)) (f .who (q .second)))
 
 -- ---- the words of a book
 
@@ -37,7 +37,7 @@ recs w = table (total w) (recAt w)
 
 -- how many of some records have SS below s
 unfoldable pub below : List Rec → ℕ → ℕ
-below records s = tally (λ r. ltb (state r) s) records
+below records s = tally (λ r. ltb (recState r) s) records
 
 -- ---- the rules; n is the total
 
@@ -47,14 +47,14 @@ countsRight w n = all 101 (λ s. eqb (getD w s 0) (below (table n (recAt w)) s))
 
 -- SS is 1 to 99, client 1 to 9,999, wish 1 to 63
 unfoldable pub okRec : Form → Rec → Bool
-okRec f r = within 1 99 (state r) && f .fine (r .second)
+okRec f r = within 1 99 (recState r) && f .fine (r .second)
 
 unfoldable pub recordsRight : Form → List ℕ → ℕ → Bool
 recordsRight f w n = all n (λ i. okRec f (recAt w i))
 
 -- strictly rising order of (first word, client)
 unfoldable pub rising : Form → List ℕ → ℕ → Bool
-rising f w n = all (n - 1) (λ i. ltb (rank f (recAt w i)) (rank f (recAt w (i + 1))))
+rising f w n = all (n - 1) (λ i. pairBelow f (recAt w i) (recAt w (i + 1)))
 
 -- unused records are zero
 unfoldable pub unusedZero : List ℕ → ℕ → Bool

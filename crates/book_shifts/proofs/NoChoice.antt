@@ -1,4 +1,4 @@
--- What two runs that meet a promise leave is equal. Assumes nothing.
+-- A promise says what the lent words then hold, so what two runs leave is equal.
 use Prim.Native.Nat.{ℕ}
 use mathlib.Core.List.{List}
 use mathlib.Core.Path.{_≡_, sym, _∙_}

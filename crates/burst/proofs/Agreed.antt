@@ -1,4 +1,4 @@
--- The steps of the vote, over plain values: what is said and left at each way out. Assumes nothing.
+-- Each way out of the vote over plain values: which row of the order holds there, and what is left in the space lent.
 use mathlib.Core.Path.{_≡_, refl, sym, ap, _∙_}
 use mathlib.Core.Bool.{Bool, true, false}
 use mathlib.Core.List.{List}
@@ -13,8 +13,8 @@ use Rattle.laws.proofs.Tables.{length-table}
 use Rattle.laws.proofs.Parts.{length-part}
 use Rattle.laws.proofs.Pasted.{glue}
 use Rattle.burst.specs.Strip.{stripped}
-use Rattle.burst.specs.Vote.{votedLength, clashAt, text, tooLong, voteRows, voteSays, voteLeaves}
-use Rattle.burst.specs.Promise.{said, VotePromise}
+use Rattle.burst.specs.Vote.{votedLength, clashAt, votedText, tooLong, voteRows, voteSays, voteLeaves}
+use Rattle.burst.specs.Promise.{saidVoted, VotePromise}
 use Rattle.burst.specs.Steps.{firstDifference, votedBytes, stretch, blended, Agrees, Decides}
 use Rattle.burst.specs.declared.Voted.{Voted}
 use Rattle.burst.specs.declared.Voted.the-variants.{Text, Refused, RefusedAt}
@@ -38,7 +38,8 @@ module _ (s p q : List ℕ) (n : ℕ) (out : List ℕ) (k : ℕ) (e : k ≡ firs
 
 -- ---- from the two that reach to the vote on three
 
-same-leaves : (f g : ℕ → List ℕ → List ℕ) (b : Bool) (k n : ℕ) (x : Said ℕ) (out : List ℕ) → x ≡ choose b (refusedAt 3 k) (granted n) → f n out ≡ g n out → leaves f x out ≡ leaves g x out
+same-leaves : (f g : ℕ → List ℕ → List ℕ) (b : Bool) (k n : ℕ) (x : Said ℕ) (out : List ℕ) → x ≡ choose b (refusedAt 3 k) (granted n)
+    → f n out ≡ g n out → leaves f x out ≡ leaves g x out
 same-leaves f g true k n x out e h = rw e
 same-leaves f g false k n x out e h = rw e h
 
@@ -55,7 +56,7 @@ module _ (a b c s p q : List ℕ) (n : ℕ) (out : List ℕ) (r : Voted) (left :
             ∙ simp (at, ne-eqb n 0 (omega arith), le-ltb 252 n most, le-ltb (length out) n room));
         space =
             g .space
-            ∙ same-leaves (λ v d. pasted d 0 (blended s p q v)) (λ v d. pasted d 0 (text a b c v)) (ltb k n) k n (said r) out (g .says)
+            ∙ same-leaves (λ v d. pasted d 0 (blended s p q v)) (λ v d. pasted d 0 (votedText a b c v)) (ltb k n) k n (saidVoted r) out (g .says)
             (ap (pasted out 0) (sym (text-is a b c s p q n w)));
       }
 

@@ -1,4 +1,4 @@
--- The shortest of three stripped bursts apart from the other two: where it ends, only those two reach. Assumes nothing.
+-- As far as the shortest of three stripped bursts goes three reach, and nothing clashes; from there on only the other two do.
 use mathlib.Core.Path.{_≡_, refl, ap, ap₂, _∙_}
 use mathlib.Core.Bool.{Bool, false}
 use mathlib.Core.List.{List, [], _∷_, _++_}
@@ -9,7 +9,7 @@ use Rattle.laws.specs.Lists.{table, lowest}
 use Rattle.laws.proofs.Tables.{table-ext}
 use Rattle.laws.proofs.Ranges.{lowest-skip, lowest-ext, table-split, table-part}
 use Rattle.burst.specs.Bits.{bit, most, votedByte}
-use Rattle.burst.specs.Vote.{votedLength, heard, clash, settled, clashAt, text}
+use Rattle.burst.specs.Vote.{votedLength, heard, clash, settled, clashAt, votedText}
 use Rattle.burst.specs.Steps.{differs, firstDifference, votedBytes, stretch, blended}
 use Rattle.burst.proofs.Bytes.{same-bits}
 use Rattle.burst.proofs.Heard.{of-abc, of-ab, of-ac, of-bc}
@@ -31,7 +31,8 @@ pub record Arranged (a b c s p q : List ℕ) (n : ℕ) : Type 0 where
   pub two : (i : ℕ) → length s ≤ i → i < n → heard a b c i ≡ getD p i 0 ∷ getD q i 0 ∷ []
 
 module _ (a b c : List ℕ) (n : ℕ) (e : n ≡ votedLength a b c) where
-  all : (i v : ℕ) → votedByte (getD a i 0) (getD b i 0) (getD c i 0) ≡ v → i < length a → i < length b → i < length c → (settled (heard a b c i) ≡ v) × (clash (heard a b c i) ≡ false)
+  all : (i v : ℕ) → votedByte (getD a i 0) (getD b i 0) (getD c i 0) ≡ v → i < length a → i < length b → i < length c
+      → (settled (heard a b c i) ≡ v) × (clash (heard a b c i) ≡ false)
   unfolding settled clash
   all i v w p q r = rw (of-abc a b c i p q r) (w, refl)
 
@@ -81,10 +82,11 @@ module _ (a b c s p q : List ℕ) (n : ℕ) (r : Arranged a b c s p q n) where
   unfolding settled
   first i h g = rw (r .two i h g)
 
-  pub text-is : text a b c n ≡ blended s p q n
+  pub text-is : votedText a b c n ≡ blended s p q n
   text-is =
       let f : ℕ → ℕ = λ i. settled (heard a b c i) in
-      let t : table (length s) f ≡ votedBytes s p q (length s) = table-ext (length s) f (λ i. votedByte (getD s i 0) (getD p i 0) (getD q i 0)) (λ i l. r .three i l .0) in
+      let t : table (length s) f ≡ votedBytes s p q (length s) =
+      table-ext (length s) f (λ i. votedByte (getD s i 0) (getD p i 0) (getD q i 0)) (λ i l. r .three i l .0) in
       let u : table (n - length s) (λ i. f (length s + i)) ≡ stretch p (length s) n =
       table-ext (n - length s) (λ i. f (length s + i)) (λ i. getD p (length s + i) 0) (λ i l. first (length s + i) (omega arith) (omega (arith, r .short)))
       ∙ table-part (length s) (n - length s) p (omega (arith, r .short, r .reach)) in

@@ -1,4 +1,4 @@
--- A byte is the number of its eight bits. Assumes nothing.
+-- A byte is the number of its eight bits, so a byte whose every bit two have right is voted right.
 use mathlib.Core.Path.{_≡_, refl, sym, ap₂, _∙_}
 use mathlib.Core.Logic.{⊎-elim}
 use Prim.Native.Nat.{ℕ, zero, suc, _+_, _*_, _%_, _^_, _<_}

@@ -1,4 +1,4 @@
--- Paper 01, "Both sides of each line": the lines of the vote that are marked P. Assumes nothing.
+-- Paper 01, "Both sides of each line": the lines of the vote that are marked P, each from the definitions.
 use mathlib.Core.Path.{_≡_, refl, ap, _∙_}
 use mathlib.Core.Bool.{Bool, false, not}
 use mathlib.Core.List.{List, [], _∷_}
@@ -60,5 +60,6 @@ pub clash-3 : (a b c : List ℕ) (room : ℕ) → tooLong a b c ≡ false
     → 5 ≤ room → voteSays a b c room ≡ refusedAt 3 3
 unfolding voteSays
 clash-3 a b c room l p q r same differ h =
-    let e : clashAt (stripped a) (stripped b) (stripped c) 5 ≡ 3 = first (stripped a) (stripped b) (stripped c) 3 2 (omega arith) (omega arith) r (omega arith) same differ in
+    let e : clashAt (stripped a) (stripped b) (stripped c) 5 ≡ 3 =
+    first (stripped a) (stripped b) (stripped c) 3 2 (omega arith) (omega arith) r (omega arith) same differ in
     rw (l, p, q, r, e) (simp (le-ltb room 5 h))

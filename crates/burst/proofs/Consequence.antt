@@ -1,4 +1,4 @@
--- Paper 01: where at each bit of a text at least two bursts that reach so far have it right, the vote gives that text. Assumes nothing.
+-- Paper 01: where at each bit of a text at least two bursts that reach so far have it right, the vote gives that text.
 use mathlib.Core.Path.{_≡_, refl, sym, ap, _∙_}
 use mathlib.Core.Bool.{false, not}
 use mathlib.Core.Logic.{⊎-elim, inl, inr}
@@ -15,7 +15,7 @@ use Rattle.laws.proofs.Lowest.{lowest-none}
 use Rattle.laws.proofs.Tables.{table-ext, table-take}
 use Rattle.burst.specs.Bits.{votedByte}
 use Rattle.burst.specs.Strip.{stripped}
-use Rattle.burst.specs.Vote.{votedLength, heard, clash, settled, clashAt, text, voteRows, voteSays, voteLeaves}
+use Rattle.burst.specs.Vote.{votedLength, heard, clash, settled, clashAt, votedText, voteRows, voteSays, voteLeaves}
 use Rattle.burst.specs.Sent.{Bytes, Right, Two, OfBytes, Sent}
 use Rattle.burst.proofs.Heard.{of-abc, of-ab, of-ac, of-bc}
 use Rattle.burst.proofs.Bytes.{same-byte, voted-right}
@@ -89,9 +89,13 @@ module _ (h a b c : List ℕ) (of : OfBytes h a b c) (i : ℕ)
 
   good : Good (heard a b c i) (getD h i 0)
   good =
+      let lowest : Two (Right h i 0 a) (Right h i 0 b) (Right h i 0 c) = right 0 (omega arith) in
       ⊎-elim
-      (λ p. ⊎-elim (λ q. ⊎-elim (with-abc p q) (with-ab p q) (le-or-lt i (length c))) (λ q. with-ac p q (two-13 (outside b q 0) (right 0 (omega arith)) .1 .0)) (le-or-lt i (length b)))
-      (λ p. with-bc p (two-23 (outside a p 0) (right 0 (omega arith)) .0 .0) (two-23 (outside a p 0) (right 0 (omega arith)) .1 .0))
+      (λ p.
+      ⊎-elim (λ q. ⊎-elim (with-abc p q) (with-ab p q) (le-or-lt i (length c)))
+      (λ q. with-ac p q (two-13 (outside b q 0) lowest .1 .0))
+      (le-or-lt i (length b)))
+      (λ p. with-bc p (two-23 (outside a p 0) lowest .0 .0) (two-23 (outside a p 0) lowest .1 .0))
       (le-or-lt i (length a))
 
 -- over stripped bursts: nothing clashes, and the text is the one that was sent
@@ -103,7 +107,7 @@ module _ (h a b c : List ℕ) (of : OfBytes h a b c)
   no-clash : clashAt a b c (length h) ≡ length h
   no-clash = lowest-none (λ i. clash (heard a b c i)) (length h) 0 (λ j l. at j (omega arith) .1) ∙ omega arith
 
-  whole : text a b c (length h) ≡ h
+  whole : votedText a b c (length h) ≡ h
   whole =
       table-ext (length h) (λ i. settled (heard a b c i)) (λ i. getD h i 0) (λ i l. at i l .0)
       ∙ table-take (length h) h (omega arith) ∙ take-length h
@@ -125,6 +129,6 @@ consequence h a b c out of s =
     rw (none-long a b c (s .short-a) (s .short-b) (s .short-c))
     (ordered h (stripped a) (stripped b) (stripped c) st (s .right) (length out) (s .some) (s .short) (s .holds) (s .middle)) in (
       e,
-      ap (λ (v : Said ℕ). leaves (λ n d. pasted d 0 (text (stripped a) (stripped b) (stripped c) n)) v out) e
+      ap (λ (v : Said ℕ). leaves (λ n d. pasted d 0 (votedText (stripped a) (stripped b) (stripped c) n)) v out) e
           ∙ ap (pasted out 0) (whole h (stripped a) (stripped b) (stripped c) st (s .right)),
     )

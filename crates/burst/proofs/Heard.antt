@@ -1,4 +1,4 @@
--- What is heard at a position, by which bursts reach so far. Assumes nothing.
+-- What is heard at a position follows from which bursts reach so far; past the middle length at most one does, and clashes with none.
 use mathlib.Core.Path.{_≡_, refl, ap, _∙_}
 use mathlib.Core.Logic.{⊎-elim}
 use mathlib.Core.Bool.{true, false}

@@ -1,4 +1,4 @@
--- The middle of three lengths, and the limit of 268. Assumes nothing.
+-- The middle of three lengths is the same however they are given; and none is too long exactly where each has at most 268 bytes.
 use mathlib.Core.Path.{_≡_}
 use mathlib.Core.Bool.{false}
 use mathlib.Core.List.{List}

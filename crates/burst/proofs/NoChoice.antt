@@ -1,4 +1,4 @@
--- The promises leave no choice, a refusal writes nothing, and a granted vote writes the voted length and no more. Assumes nothing.
+-- What is said tells the answers apart; a refusal leaves the space as it was, and a granted vote writes the voted length and no more.
 use mathlib.Core.Path.{_≡_, refl, sym, ap, _∙_}
 use mathlib.Core.Bool.{Bool, true, false}
 use mathlib.Core.List.{List, [], _++_}
@@ -11,12 +11,13 @@ use denote.Ref.{RefT}
 use denote.Slice.{sliceVal}
 use Rattle.laws.specs.Order.{Said, granted, isRefusal, Quiet, none, more}
 use Rattle.laws.specs.Space.{pasted, leaves}
+use Rattle.laws.proofs.Clash.{clash}
 use Rattle.laws.proofs.Order.{refusal-leaves, granted-quiet, said-last}
 use Rattle.laws.proofs.Tables.{length-table}
 use Rattle.laws.proofs.Pasted.{pasted-length}
 use Rattle.burst.specs.Strip.{lead, stripped}
-use Rattle.burst.specs.Vote.{votedLength, clashAt, text, tooLong, voteRows, voteSays, voteLeaves}
-use Rattle.burst.specs.Promise.{LeadingPromise, StripPromise, said, VotePromise}
+use Rattle.burst.specs.Vote.{votedLength, clashAt, votedText, tooLong, voteRows, voteSays, voteLeaves}
+use Rattle.burst.specs.Promise.{LeadingPromise, StripPromise, saidVoted, VotePromise}
 use Rattle.burst.specs.declared.Voted.{Voted}
 use Rattle.burst.specs.declared.Voted.the-variants.{Text, Refused, RefusedAt}
 use Rattle.burst.proofs.Stripped.{all-lead, only-preamble}
@@ -48,21 +49,22 @@ strip-only-preamble n burst part e p =
 
 -- ---- vote
 
-pub said-one-to-one : (r r′ : Voted) → said r ≡ said r′ → r ≡ r′
+pub said-one-to-one : (r r′ : Voted) → saidVoted r ≡ saidVoted r′ → r ≡ r′
 said-one-to-one (Text n) (Text m) e = cc
-said-one-to-one (Text n) (Refused m) e = absurd (let z : _≡_ {A = ℕ} 0 1 = cc in omega arith)
-said-one-to-one (Text n) (RefusedAt m j) e = absurd (let z : _≡_ {A = ℕ} 0 1 = cc in omega arith)
-said-one-to-one (Refused n) (Text m) e = absurd (let z : _≡_ {A = ℕ} 0 1 = cc in omega arith)
+said-one-to-one (Text n) (Refused m) e = clash cc
+said-one-to-one (Text n) (RefusedAt m j) e = clash cc
+said-one-to-one (Refused n) (Text m) e = clash cc
 said-one-to-one (Refused n) (Refused m) e = cc
-said-one-to-one (Refused n) (RefusedAt m j) e = absurd (let z : _≡_ {A = ℕ} 0 1 = cc in omega arith)
-said-one-to-one (RefusedAt n i) (Text m) e = absurd (let z : _≡_ {A = ℕ} 0 1 = cc in omega arith)
-said-one-to-one (RefusedAt n i) (Refused m) e = absurd (let z : _≡_ {A = ℕ} 0 1 = cc in omega arith)
+said-one-to-one (Refused n) (RefusedAt m j) e = clash cc
+said-one-to-one (RefusedAt n i) (Text m) e = clash cc
+said-one-to-one (RefusedAt n i) (Refused m) e = clash cc
 said-one-to-one (RefusedAt n i) (RefusedAt m j) e = cc
 
-pub vote-no-choice : (a b c out : List ℕ) (r r′ : Voted) (left left′ : List ℕ) → VotePromise a b c out r left → VotePromise a b c out r′ left′ → (r ≡ r′) × (left ≡ left′)
+pub vote-no-choice : (a b c out : List ℕ) (r r′ : Voted) (left left′ : List ℕ) → VotePromise a b c out r left → VotePromise a b c out r′ left′
+    → (r ≡ r′) × (left ≡ left′)
 vote-no-choice a b c out r r′ left left′ p q = (said-one-to-one r r′ (p .says ∙ sym (q .says)), p .space ∙ sym (q .space))
 
-pub vote-refusal-writes-nothing : (a b c out : List ℕ) (r : Voted) (left : List ℕ) → VotePromise a b c out r left → isRefusal (said r) ≡ true → left ≡ out
+pub vote-refusal-writes-nothing : (a b c out : List ℕ) (r : Voted) (left : List ℕ) → VotePromise a b c out r left → isRefusal (saidVoted r) ≡ true → left ≡ out
 unfolding voteLeaves
 vote-refusal-writes-nothing a b c out r left p h =
     p .space ∙ refusal-leaves _ (voteSays a b c (length out)) out (ap isRefusal (sym (p .says)) ∙ h)
@@ -103,18 +105,19 @@ vote-granted a b c room n e =
 -- the first n bytes are the voted text's, and the others are as found
 pub record Writes (a b c out : List ℕ) (n : ℕ) (left : List ℕ) : Type 0 where
   pub voted : n ≡ votedLength (stripped a) (stripped b) (stripped c)
-  pub front : take n left ≡ text (stripped a) (stripped b) (stripped c) n
+  pub front : take n left ≡ votedText (stripped a) (stripped b) (stripped c) n
   pub rest : drop n left ≡ drop n out
   pub size : length left ≡ length out
 
-pub vote-writes-the-voted-length : (a b c out : List ℕ) (r : Voted) (left : List ℕ) (n : ℕ) → VotePromise a b c out r left → said r ≡ granted n → Writes a b c out n left
+pub vote-writes-the-voted-length : (a b c out : List ℕ) (r : Voted) (left : List ℕ) (n : ℕ) → VotePromise a b c out r left → saidVoted r ≡ granted n
+    → Writes a b c out n left
 unfolding voteLeaves pasted
 vote-writes-the-voted-length a b c out r left n p e =
     let g : voteSays a b c (length out) ≡ granted n = sym (p .says) ∙ e in
     let w = vote-granted a b c (length out) n g in
-    let t : List ℕ = text (stripped a) (stripped b) (stripped c) n in
+    let t : List ℕ = votedText (stripped a) (stripped b) (stripped c) n in
     let l : length t ≡ n = length-table n _ in
-    let s : left ≡ pasted out 0 t = p .space ∙ ap (λ (v : Said ℕ). leaves (λ m d. pasted d 0 (text (stripped a) (stripped b) (stripped c) m)) v out) g in
+    let s : left ≡ pasted out 0 t = p .space ∙ ap (λ (v : Said ℕ). leaves (λ m d. pasted d 0 (votedText (stripped a) (stripped b) (stripped c) m)) v out) g in
     let z : 0 + length t ≡ n = omega arith in
     let f : left ≡ t ++ drop n out = s ∙ ap (λ (m : ℕ). t ++ drop m out) z in
     record {

@@ -1,4 +1,4 @@
--- How many bytes lead, and what is left of a stripped burst: its two laws, its loop, and a burst of AB bytes only. Assumes nothing.
+-- A leading byte adds 1 to those that lead the rest: so at most all lead, and of AB bytes only nothing is left.
 use mathlib.Core.Path.{_≡_, refl, ap}
 use mathlib.Core.Bool.{Bool, true, false}
 use mathlib.Core.List.{List, [], _∷_}

@@ -22,11 +22,11 @@ pub record StripPromise (burst part : RefT (List ℕ)) : Type 0 where
   pub start : part .ptr .1 ≡ burst .ptr .1 + lead (burst .now)
 
 -- the vote's answer in the paper's numbers: a text of so many bytes, a number, or a number with its index
-abbrev pub said : Voted → Said ℕ
-said (Text n) = granted n
-said (Refused n) = refused n
-said (RefusedAt n i) = refusedAt n i
+abbrev pub saidVoted : Voted → Said ℕ
+saidVoted (Text n) = granted n
+saidVoted (Refused n) = refused n
+saidVoted (RefusedAt n i) = refusedAt n i
 
 pub record VotePromise (a b c out : List ℕ) (r : Voted) (left : List ℕ) : Type 0 where
-  pub says : said r ≡ voteSays a b c (length out)
+  pub says : saidVoted r ≡ voteSays a b c (length out)
   pub space : left ≡ voteLeaves a b c out

@@ -9,8 +9,8 @@ use Rattle.laws.specs.Order.{Said, granted, refusedAt, choose, inOrder}
 use Rattle.laws.specs.Lists.{table, lowest}
 use Rattle.laws.specs.Space.{pasted, leaves}
 use Rattle.burst.specs.Bits.{votedByte}
-use Rattle.burst.specs.Vote.{votedLength, clashAt, text, voteRows}
-use Rattle.burst.specs.Promise.{said}
+use Rattle.burst.specs.Vote.{votedLength, clashAt, votedText, voteRows}
+use Rattle.burst.specs.Promise.{saidVoted}
 use Rattle.burst.specs.declared.Voted.{Voted}
 
 -- the lowest position from `from` on, below n, at which p and q differ, or n
@@ -39,8 +39,8 @@ agreed s p q n =
     choose (ltb k n) (refusedAt 3 k) (granted n)
 
 pub record Agrees (s p q : List ℕ) (n : ℕ) (out : List ℕ) (r : Voted) (left : List ℕ) : Type 0 where
-  pub says : said r ≡ agreed s p q n
-  pub space : left ≡ leaves (λ m d. pasted d 0 (blended s p q m)) (said r) out
+  pub says : saidVoted r ≡ agreed s p q n
+  pub space : left ≡ leaves (λ m d. pasted d 0 (blended s p q m)) (saidVoted r) out
 
 -- what is said of three stripped bursts, none of whose received ones is too long, and what is left in the space lent
 abbrev pub decided : List ℕ → List ℕ → List ℕ → ℕ → Said ℕ
@@ -49,5 +49,5 @@ decided a b c room =
     inOrder (voteRows false n (clashAt a b c n) room) (granted n)
 
 pub record Decides (a b c out : List ℕ) (r : Voted) (left : List ℕ) : Type 0 where
-  pub says : said r ≡ decided a b c (length out)
-  pub space : left ≡ leaves (λ m d. pasted d 0 (text a b c m)) (said r) out
+  pub says : saidVoted r ≡ decided a b c (length out)
+  pub space : left ≡ leaves (λ m d. pasted d 0 (votedText a b c m)) (saidVoted r) out

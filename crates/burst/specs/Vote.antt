@@ -39,8 +39,8 @@ votedLength a b c = middle (length a) (length b) (length c)
 abbrev pub clashAt : List ℕ → List ℕ → List ℕ → ℕ → ℕ
 clashAt a b c n = lowest (λ i. clash (heard a b c i)) 0 n
 
-abbrev pub text : List ℕ → List ℕ → List ℕ → ℕ → List ℕ
-text a b c n = table n (λ i. settled (heard a b c i))
+abbrev pub votedText : List ℕ → List ℕ → List ℕ → ℕ → List ℕ
+votedText a b c n = table n (λ i. settled (heard a b c i))
 
 -- of three received bursts: one is over 268 bytes
 unfoldable pub tooLong : List ℕ → List ℕ → List ℕ → Bool
@@ -66,4 +66,4 @@ voteSays a b c room =
 -- what it leaves in the space lent: the voted text over the front where it was granted
 unfoldable pub voteLeaves : List ℕ → List ℕ → List ℕ → List ℕ → List ℕ
 voteLeaves a b c out =
-    leaves (λ n d. pasted d 0 (text (stripped a) (stripped b) (stripped c) n)) (voteSays a b c (length out)) out
+    leaves (λ n d. pasted d 0 (votedText (stripped a) (stripped b) (stripped c) n)) (voteSays a b c (length out)) out

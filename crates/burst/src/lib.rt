@@ -36,7 +36,7 @@ pub fn leading(burst: &[u8]) -> usize
     i
 }
 
-// The part of the burst that follows its leading run. Nothing is copied.
+// The part of the burst that follows its leading run; nothing is copied.
 pub fn strip(burst: &[u8]) -> &[u8]
     ensures { λ r. ⌜ StripPromise (burst .entry) r ⌝ }
 {
@@ -182,7 +182,8 @@ fn decide(a: &[u8], b: &[u8], c: &[u8], out: &mut [u8]) -> Voted
     by_length(a, b, c, n, out)
 }
 
-// The vote on three received bursts.
+// The vote on three received bursts: the voted text over the front of out, and its length; or 1, 2, 4, 13 or 3, and nothing is
+// written.
 pub fn vote(a: &[u8], b: &[u8], c: &[u8], out: &mut [u8]) -> Voted
     ensures { λ r. ⌜ VotePromise (now (a .entry)) (now (b .entry)) (now (c .entry)) (now (out .entry)) r (now (out .exit)) ⌝ }
 {

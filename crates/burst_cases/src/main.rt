@@ -1,172 +1,136 @@
-// Runs stripping and voting on one input of each kind, and prints what each call says. After a vote it prints the space
-// lent, which held full stops: so it shows what was written, and that a refusal wrote nothing.
+// Each line of the input is a case, its parts set off by bars: a name, and a burst to strip, or three to vote on and the number
+// of bytes lent. A byte `<` stands for AB. Prints the name and what the calls say. After a vote it prints the space lent, which
+// held full stops: so it shows what was written, and that a refusal wrote nothing.
+ghost use Prim.Native.Nat.{_≤_};
+ghost use lib.ListN.{length};
 use burst::Voted;
+use codec::Number;
 
-fn print(text: &[u8]) {
+fn say(text: &[u8]) {
     io::write_all(1, text);
 }
 
-fn print_number(n: u64) {
-    io::print_decimal(1, n);
+// A word, and a number after it.
+fn tell(text: &[u8], n: usize) {
+    say(text);
+    io::print_decimal(1, n as u64);
 }
 
 // How many bytes lead, and the part that is left.
-fn strip(name: &[u8], burst: &[u8]) {
-    print(name);
-    print(b": leading=");
-    print_number(burst::leading(burst) as u64);
+fn strip(burst: &[u8]) {
+    tell(b": leading=", burst::leading(burst));
     let part = burst::strip(burst);
-    print(b" left=");
-    print_number(part.len() as u64);
-    print(b" part=");
-    print(part);
-    print(b"\n");
+    tell(b" left=", part.len());
+    say(b" part=");
+    say(part);
 }
 
-fn print_answer(answer: Voted) {
-    match answer {
-        Voted::Text(n) => {
-            print(b"text=");
-            print_number(n as u64);
-        }
-        Voted::Refused(number) => {
-            print(b"refused=");
-            print_number(number as u64);
-        }
+fn answer(said: Voted) {
+    match said {
+        Voted::Text(n) => tell(b": text=", n),
+        Voted::Refused(number) => tell(b": refused=", number as usize),
         Voted::RefusedAt(number, index) => {
-            print(b"refused=");
-            print_number(number as u64);
-            print(b" at=");
-            print_number(index as u64);
+            tell(b": refused=", number as usize);
+            tell(b" at=", index);
         }
     }
 }
 
-fn vote(name: &[u8], a: &[u8], b: &[u8], c: &[u8], out: &mut [u8]) {
-    print(name);
-    print(b": ");
-    print_answer(burst::vote(a, b, c, out));
-    print(b" space=");
-    print(out);
-    print(b"\n");
+fn vote(a: &[u8], b: &[u8], c: &[u8], out: &mut [u8]) {
+    answer(burst::vote(a, b, c, out));
+    say(b" space=");
+    say(out);
 }
 
-// A vote with eight bytes lent.
-fn vote_in_eight(name: &[u8], a: &[u8], b: &[u8], c: &[u8]) {
-    let mut out = [b'.'; 8];
-    vote(name, a, b, c, &mut out);
+// A vote with the first bytes of a space lent, so many as are asked for.
+fn vote_in(a: &[u8], b: &[u8], c: &[u8], space: &mut [u8], room: usize) {
+    if room <= space.len() {
+        vote(a, b, c, &mut space[..room]);
+    }
 }
 
-fn strips() {
-    strip(b"strip an empty burst", b"");
-    strip(b"strip no preamble", b"ZCZC-");
-    strip(b"strip two", b"\xAB\xABZCZC-");
-}
-
-fn strips_of_ab() {
-    let only = [0xAB; 300];
-    strip(b"strip AB only", b"\xAB\xAB\xAB\xAB");
-    strip(b"strip 300 of AB", &only);
-    strip(b"strip a first letter that became AB", b"\xAB\xAB\xABCZC-");
-}
-
-// Lengths that give 2.
-fn no_text() {
-    vote_in_eight(b"three empty", b"", b"", b"");
-    vote_in_eight(b"AB only", b"\xAB\xAB", b"\xAB\xAB", b"\xAB\xAB");
-    vote_in_eight(b"stripped 0, 0, 9", b"", b"\xAB", b"\xAB123456789");
-}
-
-// The limit of 268 on a received burst.
-fn received() {
-    let long = [0xAB; 269];
-    let fits = [0xAB; 268];
-    vote_in_eight(b"269 bytes of AB", b"ZCZC", &long, b"ZCZC");
-    vote_in_eight(b"268 bytes of AB", &fits, b"\xABZCZC", b"ZCZC");
-}
-
-// Room, and 13 before 3.
-fn little_room() {
-    let mut four = [b'.'; 4];
-    vote(b"room for 4 of 5", b"ZCZC-", b"ZCZC-", b"ZCZC-", &mut four);
-    vote(
-        b"room for 4 of 5, unequal",
-        b"ZCZC-",
-        b"ZCZD-",
-        b"",
-        &mut four,
+fn vote_case(line: &[u8]) {
+    let mut space = [b'.'; 252];
+    let lent = room(part(line, 4));
+    vote_in(
+        part(line, 1),
+        part(line, 2),
+        part(line, 3),
+        &mut space,
+        lent,
     );
 }
 
-fn exact_room() {
-    let mut five = [b'.'; 5];
-    vote(b"room for 5 of 5", b"ZCZC-", b"ZCZC-", b"ZCZC-", &mut five);
-    let mut none = [b'.'; 0];
-    vote(b"no room", b"ZCZC-", b"ZCZC-", b"ZCZC-", &mut none);
+// Where part k of a line starts, or the line's length.
+fn start(line: &[u8], k: usize) -> usize
+    ensures { λ r. ⌜ r ≤ length (now (line .entry)) ⌝ }
+{
+    let mut passed: usize = 0;
+    let mut i: usize = 0;
+    while i < line.len() {
+        if passed == k {
+            return i;
+        }
+        if line[i] == b'|' {
+            passed += 1;
+        }
+        i += 1;
+    }
+    i
 }
 
-// Two that differ where only they reach, whichever is the short one.
-fn clashes() {
-    vote_in_eight(b"stripped 5, 5, 0", b"\xABZCZC-", b"\xAB\xABZCZD-", b"");
-    vote_in_eight(b"stripped 5, 0, 5", b"ZCZC-", b"", b"ZCZDX");
-    vote_in_eight(b"stripped 0, 5, 5", b"", b"ZCZC-", b"ZCZD-");
+fn part(line: &[u8], k: usize) -> &[u8] {
+    let at = start(line, k);
+    let end = bytes::scan::find(line, at, line.len(), b'|');
+    &line[at..end]
 }
 
-// Where three reach the bits are voted, and where two reach they must be equal.
-fn seams() {
-    vote_in_eight(b"stripped 5, 5, 1, unequal at 0", b"ACZC-", b"ZCZC-", b"Z");
-    vote_in_eight(b"stripped 5, 5, 1, unequal at 1", b"ZAZC-", b"ZCZC-", b"Z");
+fn room(digits: &[u8]) -> usize {
+    match codec::digits_at(digits, 0, 3) {
+        Number::Is(n) => n as usize,
+        Number::NoNumber => 0,
+    }
 }
 
-fn texts() {
-    vote_in_eight(b"54, 5A, 43", b"\x54", b"\x5A", b"\x43");
-    vote_in_eight(
-        b"one wrong bit in each",
-        b"\xAB\xAB[CZC-",
-        b"\xABZGZC-",
-        b"\xABZCZC,",
-    );
-    vote_in_eight(
-        b"a first letter that became AB",
-        b"\xAB\xAB\xABCZC-",
-        b"\xAB\xABZCZC-",
-        b"\xAB\xABZCZC-",
-    );
+fn case(line: &[u8]) {
+    say(part(line, 0));
+    if start(line, 2) == line.len() {
+        strip(part(line, 1));
+    } else {
+        vote_case(line);
+    }
+    say(b"\n");
 }
 
-// The longest is cut to the middle length.
-fn cut() {
-    vote_in_eight(b"stripped 3, 5, 9", b"ZCZ", b"ZCZC-", b"ZCZC-WXR-");
-    vote_in_eight(b"stripped 9, 3, 5", b"ZCZC-WXR-", b"ZCZ", b"ZCZC-");
+fn cases(input: &[u8]) {
+    let mut at: usize = 0;
+    while at < input.len() {
+        let e = bytes::scan::find(input, at, input.len(), b'\n');
+        case(&input[at..e]);
+        at = e + 1;
+    }
 }
 
-// A vote in which the last two bursts are one.
-fn vote_twice(name: &[u8], a: &[u8], b: &[u8], out: &mut [u8]) {
-    vote(name, a, b, b, out);
+fn meant(b: u8) -> u8 {
+    if b == b'<' { 0xAB } else { b }
 }
 
-// The limit of 252 on the voted length.
-fn limits() {
-    let long = [b'A'; 268];
-    let over = [b'A'; 253];
-    let most = [b'A'; 252];
-    let other = [b'B'; 253];
-    let mut out = [b'.'; 252];
-    vote_twice(b"voted 253", &long, &over, &mut out);
-    vote(b"voted 253, unequal", &over, &other, b"", &mut out);
-    vote_twice(b"voted 252", &long, &most, &mut out);
+// Puts AB for each `<`.
+fn put_preambles(input: &mut [u8]) {
+    let mut i: usize = 0;
+    while i < input.len() {
+        input[i] = meant(input[i]);
+        i += 1;
+    }
+}
+
+fn run(input: &mut [u8]) {
+    put_preambles(input);
+    cases(input);
 }
 
 fn main() {
-    strips();
-    strips_of_ab();
-    no_text();
-    received();
-    little_room();
-    exact_room();
-    clashes();
-    seams();
-    texts();
-    cut();
-    limits();
+    let mut input = [0u8; 8192];
+    let n = io::read_full(0, &mut input);
+    run(&mut input[..n]);
 }

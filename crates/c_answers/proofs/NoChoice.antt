@@ -1,4 +1,4 @@
--- Two answers that meet a promise are equal. Assumes nothing.
+-- A promise says the answer as one number, so two that meet it are equal.
 use Prim.Native.Nat.{ℕ}
 use mathlib.Core.Bool.{Bool}
 use mathlib.Core.Path.{_≡_, sym, _∙_}
@@ -11,8 +11,8 @@ use Rattle.c_answers.specs.Promise.{CapPromise, AnswerPromise, VotedProm
 pub cap-no-choice : (v r q : ℕ) → CapPromise v r → CapPromise v q → r ≡ q
 cap-no-choice v r q a b = a .says ∙ sym (b .says)
 
-pub answer-no-choice : (number beside r q : ℕ) → AnswerPromise number beside r → AnswerPromise number beside q → r ≡ q
-answer-no-choice number beside r q a b = a .says ∙ sym (b .says)
+pub answer-no-choice : (number sizeOrIndex r q : ℕ) → AnswerPromise number sizeOrIndex r → AnswerPromise number sizeOrIndex q → r ≡ q
+answer-no-choice number sizeOrIndex r q a b = a .says ∙ sym (b .says)
 
 pub voted-no-choice : (v : Voted) (r q : ℕ) → VotedPromise v r → VotedPromise v q → r ≡ q
 voted-no-choice v r q a b = a .says ∙ sym (b .says)

@@ -1,5 +1,5 @@
 -- The answer of a call from outside, as one number of 64 bits: the paper's number in the low half, 0 where the call is granted, and
--- the length, count or index in the high half, 0 where none is named.
+-- the size (a length or a count) or index in the high half, 0 where none is named.
 use Prim.Native.Nat.{ℕ, _+_, _*_, _/_, _%_, min}
 use Rattle.laws.specs.Order.{Said, granted, refused, refusedAt, next}
 
@@ -11,10 +11,10 @@ half = 4294967296
 abbrev pub capped : ℕ → ℕ
 capped v = min v 4294967295
 
-unfoldable pub packed : Said ℕ → ℕ
-packed (granted v) = capped v * half
-packed (refused n) = n
-packed (refusedAt n i) = n + capped i * half
+unfoldable pub inHalves : Said ℕ → ℕ
+inHalves (granted v) = capped v * half
+inHalves (refused n) = n
+inHalves (refusedAt n i) = n + capped i * half
 
 -- of a call that names no value where it is granted
 abbrev pub bare : {A : Type 0} → Said A → Said ℕ
@@ -26,15 +26,15 @@ bare s = next s (λ a. granted 0)
 abbrev pub numberIn : ℕ → ℕ
 numberIn r = r % half
 
-abbrev pub besideIn : ℕ → ℕ
-besideIn r = r / half
+abbrev pub sizeOrIndexIn : ℕ → ℕ
+sizeOrIndexIn r = r / half
 
 abbrev pub numberOf : {A : Type 0} → Said A → ℕ
 numberOf (granted a) = 0
 numberOf (refused n) = n
 numberOf (refusedAt n i) = n
 
-abbrev pub besideOf : Said ℕ → ℕ
-besideOf (granted v) = v
-besideOf (refused n) = 0
-besideOf (refusedAt n i) = i
+abbrev pub sizeOrIndexOf : Said ℕ → ℕ
+sizeOrIndexOf (granted v) = v
+sizeOrIndexOf (refused n) = 0
+sizeOrIndexOf (refusedAt n i) = i

@@ -6,21 +6,21 @@ use burst::Voted;
 use header::Wrote;
 use page_printing::Printed;
 
-// What a half can say of a value.
+// The value, or the highest that a half holds.
 pub fn cap(v: usize) -> u32
     ensures { λ r. ⌜ CapPromise v r ⌝ }
 {
     if v < 4294967295 { v as u32 } else { 4294967295 }
 }
 
-// A number in the low half, and what is named beside it in the high half.
-pub fn answer(number: u32, beside: usize) -> u64
-    ensures { λ r. ⌜ AnswerPromise number beside r ⌝ }
+// A number in the low half, and the size or index that is named with it in the high half.
+pub fn answer(number: u32, named: usize) -> u64
+    ensures { λ r. ⌜ AnswerPromise number named r ⌝ }
 {
-    (number as u64) + (cap(beside) as u64) * 4294967296
+    (number as u64) + (cap(named) as u64) * 4294967296
 }
 
-// What a vote says.
+// What a vote says, as one number.
 pub fn voted(v: Voted) -> u64
     ensures { λ r. ⌜ VotedPromise v r ⌝ }
 {
@@ -31,7 +31,7 @@ pub fn voted(v: Voted) -> u64
     }
 }
 
-// What an edit says; it names nothing where it is done.
+// What an edit says, as one number; it names nothing where it is done.
 pub fn edited(e: Edited) -> u64
     ensures { λ r. ⌜ EditedPromise e r ⌝ }
 {
@@ -41,7 +41,7 @@ pub fn edited(e: Edited) -> u64
     }
 }
 
-// What printing says.
+// What printing says, as one number.
 pub fn printed(p: Printed) -> u64
     ensures { λ r. ⌜ PrintedPromise p r ⌝ }
 {
@@ -51,7 +51,7 @@ pub fn printed(p: Printed) -> u64
     }
 }
 
-// What writing a text says.
+// What writing a text says, as one number.
 pub fn wrote(w: Wrote) -> u64
     ensures { λ r. ⌜ WrotePromise w r ⌝ }
 {

@@ -1,4 +1,4 @@
--- A part of a list, copied entry by entry into a list of its length. Assumes nothing.
+-- A part of a list, copied entry by entry into a list of its length.
 use Prim.Native.Nat.{ℕ, zero, suc, _+_, _-_, _≤_, _<_}
 use mathlib.Core.Path.{_≡_, refl, sym, ap, _∙_, subst}
 use mathlib.Core.List.{List, [], _∷_, _++_, map}
@@ -31,11 +31,13 @@ pub bytes-length : (w : List ℕ) (at n : ℕ) → at + n ≤ length w → lengt
 bytes-length w at n h = length-map byteOf (take n (drop at w)) ∙ part-length w at n h
 
 -- one entry more
-pub fill : (t z l : List ℕ) (k v : ℕ) → k < length t → length z ≡ length t → v ≡ getD t k 0 → l ≡ take k t ++ drop k z → set l k v ≡ take (k + 1) t ++ drop (k + 1) z
+pub fill : (t z l : List ℕ) (k v : ℕ) → k < length t → length z ≡ length t → v ≡ getD t k 0 → l ≡ take k t ++ drop k z
+    → set l k v ≡ take (k + 1) t ++ drop (k + 1) z
 fill t z l k v h e p q = (λ i. set (q i) k (p i)) ∙ store-up t z k h (omega arith) ∙ rw add-one
 
 -- one entry more of what is pasted
-pub one-more : (d t out src : List ℕ) (at k : ℕ) → k < length src → Todo d t out (at + k) (drop k src) → Todo d t (set out (at + k) (getD src k 0)) (at + (k + 1)) (drop (k + 1) src)
+pub one-more : (d t out src : List ℕ) (at k : ℕ) → k < length src → Todo d t out (at + k) (drop k src)
+    → Todo d t (set out (at + k) (getD src k 0)) (at + (k + 1)) (drop (k + 1) src)
 one-more d t out src at k h todo =
     let e : at + k + 1 ≡ at + (k + 1) = omega arith in
     subst (λ (m : ℕ). Todo d t (set out (at + k) (getD src k 0)) m (drop (k + 1) src)) e (write-next d t out (at + k) src k todo (getD src k 0) h refl)

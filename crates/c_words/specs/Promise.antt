@@ -8,25 +8,25 @@ use Rattle.header.specs.Header.{textOf}
 use Rattle.header.specs.Answers.{fieldsOf, alertIn}
 use Rattle.clock.specs.declared.Clock.{Clock}
 use Rattle.report.specs.Promise.{writesHits}
-use Rattle.c_answers.specs.Answer.{packed}
+use Rattle.c_answers.specs.Answer.{inHalves}
 use Rattle.c_words.specs.Words.{wordsOf, fieldsIn, summaryWords}
 use Rattle.c_words.specs.Says.{fieldsSay, howMany, textSays, summarySays, howManyHits}
 
 -- ---- header texts
 
 -- lent words that hold d at first and left at last
-pub record ReadPromise (text d : List ℕ) (r : ℕ) (left : List ℕ) : Type 0 where
-  pub says : r ≡ packed (howMany (fieldsSay text (length d)))
+pub record ReadWordsPromise (text d : List ℕ) (r : ℕ) (left : List ℕ) : Type 0 where
+  pub says : r ≡ inHalves (howMany (fieldsSay text (length d)))
   pub space : left ≡ leaves (λ a out. pasted out 0 (wordsOf (fieldsOf a))) (fieldsSay text (length d)) d
 
 -- fields w, and lent bytes that hold d at first and left at last
-pub record WritePromise (w d : List ℕ) (r : ℕ) (left : List ℕ) : Type 0 where
-  pub says : r ≡ packed (textSays w (length d))
+pub record WriteWordsPromise (w d : List ℕ) (r : ℕ) (left : List ℕ) : Type 0 where
+  pub says : r ≡ inHalves (textSays w (length d))
   pub space : left ≡ leaves (λ n out. pasted out 0 (textOf (alertIn (fieldsIn w)))) (textSays w (length d)) d
 
 -- ---- the report: lent words for the summary, which hold d, and for the hits, which hold h
 
-pub record ReportPromise (book : List ℕ) (client : ℕ) (text : List ℕ) (at : Clock) (d h : List ℕ) (r : ℕ) (left rest : List ℕ) : Type 0 where
-  pub says : r ≡ packed (howManyHits (summarySays book client text at (length d) (length h)))
+pub record ReportWordsPromise (book : List ℕ) (client : ℕ) (text : List ℕ) (at : Clock) (d h : List ℕ) (r : ℕ) (left rest : List ℕ) : Type 0 where
+  pub says : r ≡ inHalves (howManyHits (summarySays book client text at (length d) (length h)))
   pub summary : left ≡ leaves (λ g out. pasted out 0 (summaryWords (g .summary))) (summarySays book client text at (length d) (length h)) d
   pub hits : rest ≡ leaves writesHits (summarySays book client text at (length d) (length h)) h

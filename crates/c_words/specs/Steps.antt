@@ -10,7 +10,7 @@ use Rattle.report.specs.declared.Summary.{Summary}
 use Rattle.report.specs.Report.{Full, reportSays}
 use Rattle.report.specs.Promise.{writesHits}
 use Rattle.clock.specs.declared.Clock.{Clock}
-use Rattle.c_answers.specs.Answer.{packed}
+use Rattle.c_answers.specs.Answer.{inHalves}
 use Rattle.c_words.specs.Words.{wordsOf, summaryWords}
 use Rattle.c_words.specs.Says.{enough, howManyHits, summarySays}
 
@@ -19,7 +19,7 @@ abbrev pub givenSays : Fields → ℕ → Said ℕ
 givenSays f words = inOrder (enough 50 words) (granted (f .count))
 
 pub record Gives (f : Fields) (d : List ℕ) (r : ℕ) (left : List ℕ) : Type 0 where
-  pub says : r ≡ packed (givenSays f (length d))
+  pub says : r ≡ inHalves (givenSays f (length d))
   pub space : left ≡ leaves (λ n out. pasted out 0 (wordsOf f)) (givenSays f (length d)) d
 
 -- a report where no summary can be given: what comes before 13, or 13
@@ -27,7 +27,7 @@ abbrev pub withoutSummary : Said Full → Said ℕ
 withoutSummary s = next s (λ g. refused 13)
 
 -- a report with room for its summary, in lent space d and hit space h
-pub record Reports (s : Said Full) (d h : List ℕ) (r : ℕ) (left rest : List ℕ) : Type 0 where
-  pub says : r ≡ packed (howManyHits s)
+pub record ReportsWords (s : Said Full) (d h : List ℕ) (r : ℕ) (left rest : List ℕ) : Type 0 where
+  pub says : r ≡ inHalves (howManyHits s)
   pub summary : left ≡ leaves (λ g out. pasted out 0 (summaryWords (g .summary))) s d
   pub hits : rest ≡ leaves writesHits s h

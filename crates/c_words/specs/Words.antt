@@ -7,8 +7,8 @@ use Rattle.laws.specs.Order.{choose}
 use Rattle.laws.specs.Lists.{one}
 use Rattle.header.specs.declared.Fields.{Fields}
 use Rattle.clock.specs.declared.Stamp.{Stamp}
-use Rattle.clock.specs.declared.State.{State}
-use Rattle.clock.specs.declared.State.the-variants.{Early, Live, Expired}
+use Rattle.clock.specs.declared.Phase.{Phase}
+use Rattle.clock.specs.declared.Phase.the-variants.{Early, Live, Expired}
 use Rattle.report.specs.declared.Summary.{Summary}
 use Rattle.c_answers.specs.Answer.{capped}
 
@@ -49,19 +49,19 @@ fieldsIn w = record {
   sender = bytesAt 8 11 w;
 }
 
--- ---- the 16 words of a summary: month, day, hour, minute of the issue and of the end; event 3; listed; class; state; hits; 0
+-- ---- the 16 words of a summary: month, day, hour, minute of the issue and of the end; event 3; listed; class; phase; hits; 0
 
 abbrev pub stampWords : Stamp → List ℕ
 stampWords s = s .month ∷ s .day ∷ s .hour ∷ s .minute ∷ []
 
 -- 0 early, 1 live, 2 expired
-abbrev pub stateWord : State → ℕ
-stateWord Early = 0
-stateWord Live = 1
-stateWord Expired = 2
+abbrev pub phaseWord : Phase → ℕ
+phaseWord Early = 0
+phaseWord Live = 1
+phaseWord Expired = 2
 
 abbrev pub restWords : Summary → List ℕ
-restWords s = one (s .listed) ∷ s .class ∷ stateWord (s .times .state) ∷ capped (s .hits) ∷ 0 ∷ []
+restWords s = one (s .listed) ∷ s .class ∷ phaseWord (s .times .phase) ∷ capped (s .hits) ∷ 0 ∷ []
 
 unfoldable pub summaryWords : Summary → List ℕ
 summaryWords s = ((stampWords (s .times .issued) ++ stampWords (s .times .until)) ++ s .event) ++ restWords s

@@ -4,19 +4,19 @@ ghost use Prim.Native.Nat.{_+_, _≤_};
 ghost use lib.ListN.{length};
 ghost use Rattle.laws.specs.Space.{pasted};
 ghost use Rattle.report.specs.Report.{reportSays};
-ghost use Rattle.c_answers.specs.Answer.{packed};
-ghost use Rattle.c_words.specs.Words.{frontWords, backWords, byteOf, bytesAt, placesIn, fieldsIn, stateWord, restWords, summaryWords};
-ghost use Rattle.c_words.specs.Steps.{Gives, withoutSummary, Reports};
-ghost use Rattle.c_words.specs.Promise.{ReadPromise, WritePromise, ReportPromise};
+ghost use Rattle.c_answers.specs.Answer.{inHalves};
+ghost use Rattle.c_words.specs.Words.{frontWords, backWords, byteOf, bytesAt, placesIn, fieldsIn, phaseWord, restWords, summaryWords};
+ghost use Rattle.c_words.specs.Steps.{Gives, withoutSummary, ReportsWords};
+ghost use Rattle.c_words.specs.Promise.{ReadWordsPromise, WriteWordsPromise, ReportWordsPromise};
 use c_answers::answer;
 use c_answers::cap;
 use c_answers::wrote;
 use c_answers::yes;
 use clock::Clock;
-use clock::State;
+use clock::Phase;
 use header::Fields;
+use report::ReportVerdict;
 use report::Summary;
-use report::Verdict;
 
 // ---- words written
 
@@ -147,21 +147,23 @@ fn fields_in(w: &[u32]) -> Fields
 
 // ---- header texts
 
-// Reads a header text into its fields, as words.
+// Reads a header text: its count of places, and its fields as 50 words over the front; or reading's number and index, or 13, and
+// nothing is written.
 pub fn read_words(text: &[u8], fields: &mut [u32]) -> u64
-    ensures { λ r. ⌜ ReadPromise (now (text .entry)) (now (fields .entry)) r (now (fields .exit)) ⌝ }
+    ensures { λ r. ⌜ ReadWordsPromise (now (text .entry)) (now (fields .entry)) r (now (fields .exit)) ⌝ }
 {
     let read = header_reading::read(text);
     let verdict = read.verdict;
     match verdict {
-        header::Verdict::Granted => give(read.fields, fields),
-        header::Verdict::RefusedAt(n, i) => answer(n, i),
+        header::ReadVerdict::Reads => give(read.fields, fields),
+        header::ReadVerdict::StopsAt(n, i) => answer(n, i),
     }
 }
 
-// Writes a header text from its fields, given as words.
+// Writes a header text from its fields, given as 50 words: its length, and the text over the front; or 13 or writing's number, and
+// nothing is written.
 pub fn write_words(fields: &[u32], out: &mut [u8]) -> u64
-    ensures { λ r. ⌜ WritePromise (now (fields .entry)) (now (out .entry)) r (now (out .exit)) ⌝ }
+    ensures { λ r. ⌜ WriteWordsPromise (now (fields .entry)) (now (out .entry)) r (now (out .exit)) ⌝ }
 {
     if fields.len() < 50 {
         return answer(13, 0);
@@ -172,13 +174,13 @@ pub fn write_words(fields: &[u32], out: &mut [u8]) -> u64
 
 // ---- the report
 
-fn state_word(s: State) -> u32
-    ensures { λ r. ⌜ r ≡ stateWord s ⌝ }
+fn phase_word(s: Phase) -> u32
+    ensures { λ r. ⌜ r ≡ phaseWord s ⌝ }
 {
     match s {
-        State::Early => 0,
-        State::Live => 1,
-        State::Expired => 2,
+        Phase::Early => 0,
+        Phase::Live => 1,
+        Phase::Expired => 2,
     }
 }
 
@@ -187,8 +189,8 @@ fn rest_of(s: Summary) -> [u32; 5]
     ensures { λ r. ⌜ r ≡ restWords s ⌝ }
 {
     let times = s.times;
-    let state = times.state;
-    [yes(s.listed), s.class, state_word(state), cap(s.hits), 0]
+    let phase = times.phase;
+    [yes(s.listed), s.class, phase_word(phase), cap(s.hits), 0]
 }
 
 // The summary's 16 words.
@@ -218,15 +220,15 @@ fn put_summary(out: &mut [u32], s: Summary)
 
 // What comes before 13, or 13: no summary can be given. Nothing lent is handed on, so nothing is written.
 fn report_blind(book: &[u32], client: u32, header: &[u8], at: Clock) -> u64
-    ensures { λ r. ⌜ r ≡ packed (withoutSummary (reportSays (now (book .entry)) client (now (header .entry)) at 1)) ⌝ }
+    ensures { λ r. ⌜ r ≡ inHalves (withoutSummary (reportSays (now (book .entry)) client (now (header .entry)) at 1)) ⌝ }
 {
     let mut none = [0u32; 1];
     let read = report::report(book, client, header, at, &mut none);
     let verdict = read.verdict;
     match verdict {
-        Verdict::Granted => answer(13, 0),
-        Verdict::Refused(n) => answer(n, 0),
-        Verdict::RefusedAt(n, i) => answer(n, i),
+        ReportVerdict::Granted => answer(13, 0),
+        ReportVerdict::Refused(n) => answer(n, 0),
+        ReportVerdict::RefusedAt(n, i) => answer(n, i),
     }
 }
 
@@ -239,22 +241,23 @@ fn report_both(
     hits: &mut [u32],
 ) -> u64
     requires { ⌜ 16 ≤ length (now summary) ⌝ }
-    ensures { λ r. ⌜ Reports (reportSays (now (book .entry)) client (now (header .entry)) at (length (now (hits .entry)))) (now (summary .entry)) (now (hits .entry)) r (now (summary .exit)) (now (hits .exit)) ⌝ }
+    ensures { λ r. ⌜ ReportsWords (reportSays (now (book .entry)) client (now (header .entry)) at (length (now (hits .entry)))) (now (summary .entry)) (now (hits .entry)) r (now (summary .exit)) (now (hits .exit)) ⌝ }
 {
     let read = report::report(book, client, header, at, hits);
     let verdict = read.verdict;
     match verdict {
-        Verdict::Granted => {
+        ReportVerdict::Granted => {
             let s = read.summary;
             put_summary(summary, s);
             answer(0, s.hits)
         }
-        Verdict::Refused(n) => answer(n, 0),
-        Verdict::RefusedAt(n, i) => answer(n, i),
+        ReportVerdict::Refused(n) => answer(n, 0),
+        ReportVerdict::RefusedAt(n, i) => answer(n, i),
     }
 }
 
-// One client's report on a header, by a clock: the summary as words, and the hits.
+// One client's report on a header, by a clock: its count of hits, the summary as 16 words and two words a hit, each over the front
+// of its space; or the report's number and index, or 13 for either space, and nothing is written.
 pub fn report_words(
     book: &[u32],
     client: u32,
@@ -263,7 +266,7 @@ pub fn report_words(
     summary: &mut [u32],
     hits: &mut [u32],
 ) -> u64
-    ensures { λ r. ⌜ ReportPromise (now (book .entry)) client (now (header .entry)) at (now (summary .entry)) (now (hits .entry)) r (now (summary .exit)) (now (hits .exit)) ⌝ }
+    ensures { λ r. ⌜ ReportWordsPromise (now (book .entry)) client (now (header .entry)) at (now (summary .entry)) (now (hits .entry)) r (now (summary .exit)) (now (hits .exit)) ⌝ }
 {
     if summary.len() < 16 {
         return report_blind(book, client, header, at);

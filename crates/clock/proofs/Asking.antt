@@ -1,10 +1,10 @@
--- What is asked of a header's fields at a clock: each number by its condition, and what is known once nothing was refused. Assumes nothing.
+-- 15, 9, 10 and 14 come in this order, each by its own condition; where none came, all four conditions are met.
 use mathlib.Core.Path.{_≡_, refl}
 use mathlib.Core.Bool.{Bool, true, false, not}
 use mathlib.Core.List.{[], _∷_}
 use Prim.Native.Nat.{ℕ}
-use native.Mathlib.Omega.{arith}
 use Rattle.laws.specs.Order.{granted, refused, _when_, inOrder}
+use Rattle.laws.proofs.Clash.{clash}
 use Rattle.clock.specs.Clock.{hasDay, isClock}
 use Rattle.header.specs.Header.{isIssue, isDuration}
 use Rattle.clock.specs.Lifetime.{yearOf, lifetimeOf, timesOf}
@@ -25,7 +25,8 @@ module _ (at : Clock) (day hour minute duration : ℕ) where
   unfolding asked
   asked-10 h d i = rw (h, d, i)
 
-  pub asked-14 : isClock at ≡ true → isDuration duration ≡ true → isIssue day hour minute ≡ true → hasDay (yearOf at day hour minute) day ≡ false → asked at day hour minute duration ≡ refused 14
+  pub asked-14 : isClock at ≡ true → isDuration duration ≡ true → isIssue day hour minute ≡ true → hasDay (yearOf at day hour minute) day ≡ false
+      → asked at day hour minute duration ≡ refused 14
   unfolding asked
   asked-14 h d i y = rw (h, d, i, y)
 
@@ -42,17 +43,18 @@ module _ (at : Clock) (day hour minute duration : ℕ) where
           → inOrder (refused 15 when not a ∷ refused 9 when not b ∷ refused 10 when not c ∷ refused 14 when not d ∷ []) (granted tt) ≡ granted (tt {0})
           → Fit at day hour minute duration
       by true true true true p q r s e = record { clock = p; lasts = q; issue = r; exists = s }
-      by false b c d p q r s e = absurd (let z : _≡_ {A = ℕ} 0 1 = cc in omega arith)
-      by true false c d p q r s e = absurd (let z : _≡_ {A = ℕ} 0 1 = cc in omega arith)
-      by true true false d p q r s e = absurd (let z : _≡_ {A = ℕ} 0 1 = cc in omega arith)
-      by true true true false p q r s e = absurd (let z : _≡_ {A = ℕ} 0 1 = cc in omega arith)
+      by false b c d p q r s e = clash cc
+      by true false c d p q r s e = clash cc
+      by true true false d p q r s e = clash cc
+      by true true true false p q r s e = clash cc
 
   -- the calls say what was refused, or what there is to say
   pub lifetime-refused : (n : ℕ) → asked at day hour minute duration ≡ refused n → lifetimeSays at day hour minute duration ≡ refused n
   unfolding lifetimeSays
   lifetime-refused n e = rw e
 
-  pub lifetime-granted : asked at day hour minute duration ≡ granted tt → lifetimeSays at day hour minute duration ≡ granted (lifetimeOf at day hour minute duration)
+  pub lifetime-granted : asked at day hour minute duration ≡ granted tt
+      → lifetimeSays at day hour minute duration ≡ granted (lifetimeOf at day hour minute duration)
   unfolding lifetimeSays
   lifetime-granted e = rw e
 

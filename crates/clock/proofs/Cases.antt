@@ -1,4 +1,4 @@
--- The paper's lines on days, and those of its sample on the lifetime. Assumes nothing.
+-- The paper's lines on days, by computation: day 60 in two years, and day 366 of 2023.
 use mathlib.Core.Path.{_≡_, refl, ap, _∙_}
 use mathlib.Core.Bool.{true, false}
 use Prim.Native.Nat.{ℕ}
@@ -29,7 +29,8 @@ no-366 : hasDay 2023 366 ≡ false
 unfolding hasDay
 no-366 = refl
 
-module _ (at : Clock) (hour minute duration : ℕ) (h : isClock at ≡ true) (y : at .year ≡ 2023) (d : isDuration duration ≡ true) (i : isIssue 366 hour minute ≡ true) where
+module _ (at : Clock) (hour minute duration : ℕ)
+    (h : isClock at ≡ true) (y : at .year ≡ 2023) (d : isDuration duration ≡ true) (i : isIssue 366 hour minute ≡ true) where
   pub times-366 : timesSays at 366 hour minute duration ≡ refused 14
   times-366 =
       times-refused at 366 hour minute duration 14

@@ -1,4 +1,4 @@
--- The calendar's entry of a day is its month and day by the lengths of the months of that year. Assumes nothing.
+-- Both kinds of years go alike up to February 28 and then one entry apart: so the calendar's entry is the date by the lengths of the months.
 use mathlib.Core.Path.{_≡_, refl, sym, ap, _∙_}
 use mathlib.Core.Bool.{Bool, true, false, _&&_, not}
 use mathlib.Core.List.{[], _∷_}

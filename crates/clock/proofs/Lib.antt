@@ -1,7 +1,7 @@
 pub mod Ranges
 pub mod Dates
 pub mod Moments
-pub mod States
+pub mod Phases
 pub mod Until
 pub mod Asking
 pub mod Header

@@ -1,4 +1,4 @@
--- Moments: the year of a header, the state in that year, and the times that minutes say. Assumes nothing.
+-- The start from which moments count does not matter to the phase, so minutes of the header's year do; days past that year are the next one's.
 use mathlib.Core.Path.{_≡_, refl, sym, _∙_}
 use mathlib.Core.Logic.{⊎-elim}
 use mathlib.Core.Bool.{true}
@@ -8,28 +8,28 @@ use native.Mathlib.Omega.{arith}
 use borrow.Author.Tests.{lt-ltb, le-ltb, le-leb, lt-leb}
 use Rattle.laws.proofs.Tests.{le-or-lt}
 use Rattle.clock.specs.Clock.{daysIn, hasDay}
-use Rattle.clock.specs.Lifetime.{yearOf, minuteOf, daysBefore, momentIn, momentOf, stateOf, timeIn, lifetimeOf}
+use Rattle.clock.specs.Lifetime.{yearOf, minuteOf, daysBefore, momentIn, momentOf, phaseOf, timeIn, lifetimeOf}
 use Rattle.clock.specs.declared.Clock.{Clock}
-use Rattle.clock.specs.declared.State.the-variants.{Early, Live, Expired}
+use Rattle.clock.specs.declared.Phase.the-variants.{Early, Live, Expired}
 use Rattle.clock.proofs.Ranges.{days-low, has-day}
 
--- ---- the state
+-- ---- the phase
 
 -- by its condition
-pub is-early : (issue duration at : ℕ) → at + 5 < issue → stateOf issue duration at ≡ Early
-unfolding stateOf
+pub is-early : (issue duration at : ℕ) → at + 5 < issue → phaseOf issue duration at ≡ Early
+unfolding phaseOf
 is-early issue duration at h = rw (lt-ltb (at + 5) issue h)
 
-pub is-expired : (issue duration at : ℕ) → issue + duration ≤ at → stateOf issue duration at ≡ Expired
-unfolding stateOf
+pub is-expired : (issue duration at : ℕ) → issue + duration ≤ at → phaseOf issue duration at ≡ Expired
+unfolding phaseOf
 is-expired issue duration at h = rw (le-ltb (at + 5) issue (omega arith), le-leb (issue + duration) at h)
 
-pub is-live : (issue duration at : ℕ) → issue ≤ at + 5 → at < issue + duration → stateOf issue duration at ≡ Live
-unfolding stateOf
+pub is-live : (issue duration at : ℕ) → issue ≤ at + 5 → at < issue + duration → phaseOf issue duration at ≡ Live
+unfolding phaseOf
 is-live issue duration at h k = rw (le-ltb (at + 5) issue h, lt-leb (issue + duration) at k)
 
 -- the start from which moments count does not matter
-pub any-start : (k issue duration at : ℕ) → stateOf (k + issue) duration (k + at) ≡ stateOf issue duration at
+pub any-start : (k issue duration at : ℕ) → phaseOf (k + issue) duration (k + at) ≡ phaseOf issue duration at
 any-start k issue duration at =
     ⊎-elim (λ h. is-early (k + issue) duration (k + at) (omega arith) ∙ sym (is-early issue duration at h))
     (λ h.
@@ -46,7 +46,7 @@ year-is at day hour minute = refl
 
 -- minutes count from the start of that year
 pub in-that-year : (at : Clock) (day hour minute duration : ℕ)
-    → stateOf (minuteOf day hour minute) duration (minuteOf (at .day) (at .hour) (at .minute)) ≡ lifetimeOf at day hour minute duration
+    → phaseOf (minuteOf day hour minute) duration (minuteOf (at .day) (at .hour) (at .minute)) ≡ lifetimeOf at day hour minute duration
 unfolding lifetimeOf
 in-that-year at day hour minute duration =
     rw (year-is at day hour minute)
@@ -55,11 +55,13 @@ in-that-year at day hour minute duration =
 -- ---- the time that minutes from the start of a year say
 
 module _ (year minutes : ℕ) where
-  pub this-year : minutes / 1440 + 1 ≤ daysIn year → record { year = year; day = minutes / 1440 + 1; hour = minutes / 60 % 24; minute = minutes % 60 } ≡ timeIn year minutes
+  pub this-year : minutes / 1440 + 1 ≤ daysIn year
+      → record { year = year; day = minutes / 1440 + 1; hour = minutes / 60 % 24; minute = minutes % 60 } ≡ timeIn year minutes
   unfolding timeIn
   this-year h = rw (le-ltb (daysIn year) (minutes / 1440 + 1) h)
 
-  pub next-year : daysIn year < minutes / 1440 + 1 → record { year = year + 1; day = minutes / 1440 + 1 - daysIn year; hour = minutes / 60 % 24; minute = minutes % 60 } ≡ timeIn year minutes
+  pub next-year : daysIn year < minutes / 1440 + 1
+      → record { year = year + 1; day = minutes / 1440 + 1 - daysIn year; hour = minutes / 60 % 24; minute = minutes % 60 } ≡ timeIn year minutes
   unfolding timeIn
   next-year h = rw (lt-ltb (daysIn year) (minutes / 1440 + 1) h)
 

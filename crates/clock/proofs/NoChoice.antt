@@ -1,44 +1,44 @@
--- The promises leave no choice: two answers that both meet one are equal. No call is lent space. Assumes nothing.
+-- What an answer says is said by no other, so two that meet a promise are equal. No call is lent space.
 use mathlib.Core.Path.{_≡_, refl, sym, _∙_}
 use Prim.Native.Nat.{ℕ}
-use native.Mathlib.Omega.{arith}
+use Rattle.laws.proofs.Clash.{clash}
 use Rattle.clock.specs.Answers.{saidChecked, saidDate, saidLife, saidTimed}
 use Rattle.clock.specs.Promise.{CheckPromise, DatePromise, LifetimePromise, TimesPromise}
 use Rattle.clock.specs.declared.Clock.{Clock}
 use Rattle.clock.specs.declared.Checked.{Checked}
-use Rattle.clock.specs.declared.Checked.the-variants as checked
+use Rattle.clock.specs.declared.Checked.the-variants.{Good, Bad}
 use Rattle.clock.specs.declared.Date.{Date}
-use Rattle.clock.specs.declared.Date.the-variants as date
+use Rattle.clock.specs.declared.Date.the-variants.{On, NoDate}
 use Rattle.clock.specs.declared.Life.{Life}
-use Rattle.clock.specs.declared.Life.the-variants as life
+use Rattle.clock.specs.declared.Life.the-variants.{Is, NoLife}
 use Rattle.clock.specs.declared.Timed.{Timed}
-use Rattle.clock.specs.declared.Timed.the-variants as timed
+use Rattle.clock.specs.declared.Timed.the-variants.{Are, NoTimes}
 
 -- ---- what each case says is said by no other
 
 pub checked-one : (r s : Checked) → saidChecked r ≡ saidChecked s → r ≡ s
-checked-one checked.Good checked.Good e = refl
-checked-one checked.Good (checked.Refused m) e = absurd (let z : _≡_ {A = ℕ} 0 1 = cc in omega arith)
-checked-one (checked.Refused n) checked.Good e = absurd (let z : _≡_ {A = ℕ} 0 1 = cc in omega arith)
-checked-one (checked.Refused n) (checked.Refused m) e = cc
+checked-one Good Good e = refl
+checked-one Good (Bad m) e = clash cc
+checked-one (Bad n) Good e = clash cc
+checked-one (Bad n) (Bad m) e = cc
 
 pub date-one : (r s : Date) → saidDate r ≡ saidDate s → r ≡ s
-date-one (date.On a) (date.On b) e = cc
-date-one (date.On a) (date.Refused m) e = absurd (let z : _≡_ {A = ℕ} 0 1 = cc in omega arith)
-date-one (date.Refused n) (date.On b) e = absurd (let z : _≡_ {A = ℕ} 0 1 = cc in omega arith)
-date-one (date.Refused n) (date.Refused m) e = cc
+date-one (On a) (On b) e = cc
+date-one (On a) (NoDate m) e = clash cc
+date-one (NoDate n) (On b) e = clash cc
+date-one (NoDate n) (NoDate m) e = cc
 
 pub life-one : (r s : Life) → saidLife r ≡ saidLife s → r ≡ s
-life-one (life.Is a) (life.Is b) e = cc
-life-one (life.Is a) (life.Refused m) e = absurd (let z : _≡_ {A = ℕ} 0 1 = cc in omega arith)
-life-one (life.Refused n) (life.Is b) e = absurd (let z : _≡_ {A = ℕ} 0 1 = cc in omega arith)
-life-one (life.Refused n) (life.Refused m) e = cc
+life-one (Is a) (Is b) e = cc
+life-one (Is a) (NoLife m) e = clash cc
+life-one (NoLife n) (Is b) e = clash cc
+life-one (NoLife n) (NoLife m) e = cc
 
 pub timed-one : (r s : Timed) → saidTimed r ≡ saidTimed s → r ≡ s
-timed-one (timed.Granted a) (timed.Granted b) e = cc
-timed-one (timed.Granted a) (timed.Refused m) e = absurd (let z : _≡_ {A = ℕ} 0 1 = cc in omega arith)
-timed-one (timed.Refused n) (timed.Granted b) e = absurd (let z : _≡_ {A = ℕ} 0 1 = cc in omega arith)
-timed-one (timed.Refused n) (timed.Refused m) e = cc
+timed-one (Are a) (Are b) e = cc
+timed-one (Are a) (NoTimes m) e = clash cc
+timed-one (NoTimes n) (Are b) e = clash cc
+timed-one (NoTimes n) (NoTimes m) e = cc
 
 -- ---- the calls
 

@@ -1,4 +1,4 @@
--- What the tests of clocks, issues and durations say as numbers. Assumes nothing.
+-- A test of a day, a clock or an issue that holds gives its bounds as numbers.
 use mathlib.Core.Path.{_≡_}
 use mathlib.Core.Bool.{Bool, true, false, _&&_}
 use Prim.Native.Nat.{ℕ, _≤_}

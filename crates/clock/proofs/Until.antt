@@ -1,4 +1,4 @@
--- The end of a header is its issue plus its duration as a moment, also over New Year; and a moment is that of one time only. Assumes nothing.
+-- The end of a header is its issue plus its duration as a moment, also over New Year; and a moment is that of one time only.
 use mathlib.Core.Path.{_≡_, ap, _∙_}
 use mathlib.Core.Logic.{⊎-elim}
 use Prim.Native.Nat.{ℕ, zero, suc, _+_, _/_, _≤_, _<_}
@@ -25,9 +25,13 @@ until-moment at day hour minute duration =
 
 time-is : (year minutes : ℕ) → minutes / 1440 < daysIn year + 365 → Exists (timeIn year minutes)
 time-is year minutes h =
-    ⊎-elim (λ l. rw (← next-year year minutes l) (record { day = ap (λ (t : Clock). hasDay (t .year) (t .day)) (next-year year minutes l) ∙ time-exists year minutes h; hour = omega arith; minute = omega arith }))
-    (λ l. rw (← this-year year minutes l) (record { day = ap (λ (t : Clock). hasDay (t .year) (t .day)) (this-year year minutes l) ∙ time-exists year minutes h; hour = omega arith; minute = omega arith }))
+    ⊎-elim (λ l. is _ (next-year year minutes l) (omega arith) (omega arith))
+    (λ l. is _ (this-year year minutes l) (omega arith) (omega arith))
     (le-or-lt (daysIn year) (minutes / 1440 + 1))
+  where
+    is : (t : Clock) → t ≡ timeIn year minutes → t .hour ≤ 23 → t .minute ≤ 59 → Exists (timeIn year minutes)
+    is t e p q =
+        rw (← e) (record { day = ap (λ (u : Clock). hasDay (u .year) (u .day)) e ∙ time-exists year minutes h; hour = p; minute = q })
 
 pub issue-exists : (at : Clock) (day hour minute duration : ℕ) → Fit at day hour minute duration → Exists (issueOf at day hour minute)
 issue-exists at day hour minute duration f =

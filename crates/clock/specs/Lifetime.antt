@@ -8,8 +8,8 @@ use Rattle.clock.specs.Clock.{daysIn}
 use Rattle.clock.specs.Calendar.{dateOf}
 use Rattle.clock.specs.declared.Clock.{Clock}
 use Rattle.clock.specs.declared.Stamp.{Stamp}
-use Rattle.clock.specs.declared.State.{State}
-use Rattle.clock.specs.declared.State.the-variants.{Early, Live, Expired}
+use Rattle.clock.specs.declared.Phase.{Phase}
+use Rattle.clock.specs.declared.Phase.the-variants.{Early, Live, Expired}
 use Rattle.clock.specs.declared.Times.{Times}
 
 -- the year that a header is taken to be of, by the clock and its issue: the clock's
@@ -38,8 +38,8 @@ early issue at = ltb (at + 5) issue
 abbrev pub expired : ℕ → ℕ → ℕ → Bool
 expired issue duration at = leb (issue + duration) at
 
-unfoldable pub stateOf : ℕ → ℕ → ℕ → State
-stateOf issue duration at =
+unfoldable pub phaseOf : ℕ → ℕ → ℕ → Phase
+phaseOf issue duration at =
     inOrder
     (
     Early when early issue at
@@ -65,19 +65,19 @@ stampOf t = record {
   minute = t .minute;
 }
 
--- a header's issue, its end, and its state, all of the header's year
+-- a header's issue, its end, and its phase, all of the header's year
 abbrev pub issueOf : Clock → ℕ → ℕ → ℕ → Clock
 issueOf at day hour minute = record { year = yearOf at day hour minute; day = day; hour = hour; minute = minute }
 
 abbrev pub untilOf : Clock → ℕ → ℕ → ℕ → ℕ → Clock
 untilOf at day hour minute duration = timeIn (yearOf at day hour minute) (minuteOf day hour minute + duration)
 
-unfoldable pub lifetimeOf : Clock → ℕ → ℕ → ℕ → ℕ → State
-lifetimeOf at day hour minute duration = stateOf (momentOf (issueOf at day hour minute)) duration (momentOf at)
+unfoldable pub lifetimeOf : Clock → ℕ → ℕ → ℕ → ℕ → Phase
+lifetimeOf at day hour minute duration = phaseOf (momentOf (issueOf at day hour minute)) duration (momentOf at)
 
 unfoldable pub timesOf : Clock → ℕ → ℕ → ℕ → ℕ → Times
 timesOf at day hour minute duration = record {
   issued = stampOf (issueOf at day hour minute);
   until = stampOf (untilOf at day hour minute duration);
-  state = lifetimeOf at day hour minute duration;
+  phase = lifetimeOf at day hour minute duration;
 }

@@ -3,7 +3,7 @@ ghost use mathlib.Core.Path.{_≡_};
 ghost use mathlib.Core.Bool.{true};
 ghost use Prim.Native.Nat.{_<_, _≤_};
 ghost use Rattle.clock.specs.Clock.{hasDay, isClock};
-ghost use Rattle.clock.specs.Lifetime.{yearOf, minuteOf, stateOf, timeIn, stampOf, timesOf};
+ghost use Rattle.clock.specs.Lifetime.{yearOf, minuteOf, phaseOf, timeIn, stampOf, timesOf};
 ghost use Rattle.clock.specs.Answers.{asked, saidChecked};
 ghost use Rattle.clock.specs.Promise.{CheckPromise, DatePromise, LifetimePromise, TimesPromise};
 ghost use Rattle.clock.specs.Steps.{Fit, OfYear, Minute};
@@ -35,7 +35,7 @@ pub struct Stamp {
     pub minute: u32,
 }
 
-pub enum State {
+pub enum Phase {
     Early,
     Live,
     Expired,
@@ -45,27 +45,27 @@ pub enum State {
 pub struct Times {
     pub issued: Stamp,
     pub until: Stamp,
-    pub state: State,
+    pub phase: Phase,
 }
 
 pub enum Checked {
     Good,
-    Refused(u32),
+    Bad(u32),
 }
 
 pub enum Date {
     On(MonthDay),
-    Refused(u32),
+    NoDate(u32),
 }
 
 pub enum Life {
-    Is(State),
-    Refused(u32),
+    Is(Phase),
+    NoLife(u32),
 }
 
 pub enum Timed {
-    Granted(Times),
-    Refused(u32),
+    Are(Times),
+    NoTimes(u32),
 }
 
 // Whether a clock is in range.
@@ -99,16 +99,16 @@ fn refusal(at: Clock, day: u32, hour: u32, minute: u32, duration: u32) -> Checke
     ensures { λ r. ⌜ saidChecked r ≡ asked at day hour minute duration ⌝ }
 {
     if !is_clock(at) {
-        return Checked::Refused(15);
+        return Checked::Bad(15);
     }
     if !header::is_duration(duration) {
-        return Checked::Refused(9);
+        return Checked::Bad(9);
     }
     if !header::is_issue(day, hour, minute) {
-        return Checked::Refused(10);
+        return Checked::Bad(10);
     }
     if !has_day(year_of(at, day, hour, minute), day) {
-        return Checked::Refused(14);
+        return Checked::Bad(14);
     }
     Checked::Good
 }
@@ -122,27 +122,27 @@ fn minute_of(day: u32, hour: u32, minute: u32) -> u32
 }
 
 // Whether a header is early, live or expired, all counted from one start. Differences, so that no sum runs over.
-fn state_of(issue: u32, duration: u32, at: u32) -> State
-    ensures { λ r. ⌜ r ≡ stateOf issue duration at ⌝ }
+fn phase_of(issue: u32, duration: u32, at: u32) -> Phase
+    ensures { λ r. ⌜ r ≡ phaseOf issue duration at ⌝ }
 {
     if at < issue {
         if 5 < issue - at {
-            return State::Early;
+            return Phase::Early;
         }
-        return State::Live;
+        return Phase::Live;
     }
     if duration <= at - issue {
-        return State::Expired;
+        return Phase::Expired;
     }
-    State::Live
+    Phase::Live
 }
 
-// The state at a clock of a header issued in this minute of the clock's year.
-fn state_at(at: Clock, issue: u32, duration: u32) -> State
+// The phase at a clock of a header issued in this minute of the clock's year.
+fn phase_at(at: Clock, issue: u32, duration: u32) -> Phase
     requires { ⌜ isClock at ≡ true ⌝ }
-    ensures { λ r. ⌜ r ≡ stateOf issue duration (minuteOf (at .day) (at .hour) (at .minute)) ⌝ }
+    ensures { λ r. ⌜ r ≡ phaseOf issue duration (minuteOf (at .day) (at .hour) (at .minute)) ⌝ }
 {
-    state_of(issue, duration, minute_of(at.day, at.hour, at.minute))
+    phase_of(issue, duration, minute_of(at.day, at.hour, at.minute))
 }
 
 // Day, hour and minute of the minutes from the start of a year, which may fall in the following year.
@@ -207,7 +207,7 @@ fn times_at(at: Clock, day: u32, hour: u32, minute: u32, duration: u32) -> Times
             minute,
         }),
         until: stamp_in(year, issue + duration),
-        state: state_at(at, issue, duration),
+        phase: phase_at(at, issue, duration),
     }
 }
 
@@ -218,7 +218,7 @@ pub fn check(at: Clock) -> Checked
     if is_clock(at) {
         return Checked::Good;
     }
-    Checked::Refused(15)
+    Checked::Bad(15)
 }
 
 // Month and day of a day of a year: or 14, where the year lacks it.
@@ -228,7 +228,7 @@ pub fn date_of(year: u32, day: u32) -> Date
     if has_day(year, day) {
         return Date::On(date_in(year, day));
     }
-    Date::Refused(14)
+    Date::NoDate(14)
 }
 
 // Whether a header is early, live or expired at a clock: or 15, 9, 10, 14.
@@ -236,17 +236,17 @@ pub fn lifetime(at: Clock, day: u32, hour: u32, minute: u32, duration: u32) -> L
     ensures { λ r. ⌜ LifetimePromise at day hour minute duration r ⌝ }
 {
     match refusal(at, day, hour, minute, duration) {
-        Checked::Good => Life::Is(state_at(at, minute_of(day, hour, minute), duration)),
-        Checked::Refused(n) => Life::Refused(n),
+        Checked::Good => Life::Is(phase_at(at, minute_of(day, hour, minute), duration)),
+        Checked::Bad(n) => Life::NoLife(n),
     }
 }
 
-// When a header was issued and runs out, and its state at a clock: or 15, 9, 10, 14. No minute is computed twice.
+// When a header was issued and runs out, and its phase at a clock: or 15, 9, 10, 14. No minute is computed twice.
 pub fn times_of(at: Clock, day: u32, hour: u32, minute: u32, duration: u32) -> Timed
     ensures { λ r. ⌜ TimesPromise at day hour minute duration r ⌝ }
 {
     match refusal(at, day, hour, minute, duration) {
-        Checked::Good => Timed::Granted(times_at(at, day, hour, minute, duration)),
-        Checked::Refused(n) => Timed::Refused(n),
+        Checked::Good => Timed::Are(times_at(at, day, hour, minute, duration)),
+        Checked::Bad(n) => Timed::NoTimes(n),
     }
 }

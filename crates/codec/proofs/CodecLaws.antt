@@ -1,4 +1,4 @@
--- The law of each codec: what is read is what is written, each way, once for each way of putting them together. Assumes nothing.
+-- The law of each codec: what is read is what is written, each way, once for each way of putting them together.
 use Prim.Native.Nat.{ℕ, zero, suc, _+_, _*_, _≤_, _<_}
 use mathlib.Core.Path.{_≡_, refl, sym, ap, _∙_}
 use mathlib.Core.List.{List, [], _∷_, _++_, append-assoc}
@@ -19,6 +19,7 @@ use Rattle.laws.proofs.Quiet.{quiet-left, quiet-right, quiet-one, one-quiet}
 use Rattle.codec.specs.Kind.{Kind}
 use Rattle.codec.specs.Codec.{Out, got, no, andThen, fits, step, is, either, Codec, field, unless, _▷_, listOf, getList, textList}
 use Rattle.codec.specs.Law.{Law, Lawful}
+use Rattle.codec.proofs.Apart.{got-no}
 
 -- ---- a step
 
@@ -42,8 +43,9 @@ module _ {A : Type 0} (n : ℕ) (k : Kind A) (mark : ℕ → Bool) where
       rest : Bool
       rest = k .allowed (take w s) && mark (getD s w 0)
 
-      go : (b : Bool) → ltb w (length s) && rest ≡ b → choose b (got (k .value (take w s)) (drop (w + 1) s) (i + (w + 1))) (no n i) ≡ got v r j → Stepped k mark s i v r j
-      go false h e = absurd (let z : _≡_ {A = ℕ} 0 1 = cc in omega arith)
+      go : (b : Bool) → ltb w (length s) && rest ≡ b → choose b (got (k .value (take w s)) (drop (w + 1) s) (i + (w + 1))) (no n i) ≡ got v r j
+          → Stepped k mark s i v r j
+      go false h e = got-no (sym e)
       go true h e =
           let lt : w < length s = ltb-true w (length s) (and-l (ltb w (length s)) rest h) in
           let hr : rest ≡ true = and-r (ltb w (length s)) rest h in
@@ -65,7 +67,8 @@ module _ {A : Type 0} (n : ℕ) (k : Kind A) (mark : ℕ → Bool) where
       let lt : ltb (k .width) (length (p ++ (x ∷ r))) ≡ true = lt-ltb (k .width) (length (p ++ (x ∷ r))) (omega (arith, length-append p (x ∷ r))) in
       let et : take (k .width) (p ++ (x ∷ r)) ≡ p = take-at p (x ∷ r) (k .width) l in
       let eg : getD (p ++ (x ∷ r)) (k .width) 0 ≡ x = getD-at p x r 0 (k .width) l in
-      let ed : drop (k .width + 1) (p ++ (x ∷ r)) ≡ r = ap (drop (k .width + 1)) (sym (append-snoc p x r)) ∙ drop-at (p ++ (x ∷ [])) r (k .width + 1) (length-append p (x ∷ []) ∙ omega arith) in
+      let ed : drop (k .width + 1) (p ++ (x ∷ r)) ≡ r =
+      ap (drop (k .width + 1)) (sym (append-snoc p x r)) ∙ drop-at (p ++ (x ∷ [])) r (k .width + 1) (length-append p (x ∷ []) ∙ omega arith) in
       simp (lt, et, eg, ed, h, m)
 
 -- ---- a codec
@@ -107,7 +110,7 @@ then-law {A} {B} c d lc ld = record { reads = rd; writes = wr }
       where
         end : (a : A) (q : List ℕ) (l : ℕ) → c .get s i ≡ got a q l → (o : Out B) → d .get q l ≡ o → andThen o (λ b q l. got (a, b) q l) ≡ got v r j
             → Quiet (c .faults (v .0) ++ d .faults (v .1)) × (s ≡ (c .text (v .0) ++ d .text (v .1)) ++ r) × (j ≡ i + length (c .text (v .0) ++ d .text (v .1)))
-        end a q l h (no n m) k e = absurd (let z : _≡_ {A = ℕ} 0 1 = cc in omega arith)
+        end a q l h (no n m) k e = got-no (sym e)
         end a q l h (got b q′ l′) k e =
             let ev : _≡_ {A = A × B} (a, b) v = cc in
             let ea : a ≡ v .0 = ap (λ (p : A × B). p .0) ev in
@@ -123,11 +126,12 @@ then-law {A} {B} c d lc ld = record { reads = rd; writes = wr }
 
         go : (o : Out A) → c .get s i ≡ o → andThen o (λ a r j. andThen (d .get r j) (λ b q l. got (a, b) q l)) ≡ got v r j
             → Quiet (c .faults (v .0) ++ d .faults (v .1)) × (s ≡ (c .text (v .0) ++ d .text (v .1)) ++ r) × (j ≡ i + length (c .text (v .0) ++ d .text (v .1)))
-        go (no n m) h e = absurd (let z : _≡_ {A = ℕ} 0 1 = cc in omega arith)
+        go (no n m) h e = got-no (sym e)
         go (got a q l) h e = end a q l h (d .get q l) refl e
 
     wr : (v : A × B) (r : List ℕ) (i : ℕ) → Quiet (c .faults (v .0) ++ d .faults (v .1))
-        → andThen (c .get ((c .text (v .0) ++ d .text (v .1)) ++ r) i) (λ a r j. andThen (d .get r j) (λ b q l. got (a, b) q l)) ≡ got v r (i + length (c .text (v .0) ++ d .text (v .1)))
+        → andThen (c .get ((c .text (v .0) ++ d .text (v .1)) ++ r) i) (λ a r j. andThen (d .get r j) (λ b q l. got (a, b) q l))
+        ≡ got v r (i + length (c .text (v .0) ++ d .text (v .1)))
     wr v r i e =
         let x = lc .writes (v .0) (d .text (v .1) ++ r) i (quiet-left (c .faults (v .0)) (d .faults (v .1)) e) in
         let y = ld .writes (v .1) r (i + length (c .text (v .0))) (quiet-right (c .faults (v .0)) (d .faults (v .1)) e) in
@@ -154,7 +158,8 @@ module _ {A : Type 0} (n : ℕ) (k : Kind A) (law : Law k) (a e : ℕ) (apart : 
   Read m s i ps r j = Listed m ps × (s ≡ textList k a e ps ++ r) × (j ≡ i + length (textList k a e ps))
 
   -- the last
-  last : (m : ℕ) (s : List ℕ) (i : ℕ) (p : A) (q : List ℕ) (l : ℕ) → Stepped k mark s i p q l → eqb (getD s (k .width) 0) e ≡ true → Read (suc m) s i (p ∷ []) q l
+  last : (m : ℕ) (s : List ℕ) (i : ℕ) (p : A) (q : List ℕ) (l : ℕ) → Stepped k mark s i p q l → eqb (getD s (k .width) 0) e ≡ true
+      → Read (suc m) s i (p ∷ []) q l
   unfolding Listed
   last m s i p q l t h =
       let x = law .reads (take (k .width) s) (t .front) (t .fine) in
@@ -182,7 +187,7 @@ module _ {A : Type 0} (n : ℕ) (k : Kind A) (law : Law k) (a e : ℕ) (apart : 
       )
 
   get-reads : (m : ℕ) (s : List ℕ) (i : ℕ) (ps : List A) (r : List ℕ) (j : ℕ) → getList n k a e m s i ≡ got ps r j → Read m s i ps r j
-  get-reads zero s i ps r j h = absurd (let z : _≡_ {A = ℕ} 0 1 = cc in omega arith)
+  get-reads zero s i ps r j h = got-no (sym h)
   get-reads (suc m) s i ps r j h = go (step n k mark s i) refl h (λ q l ps r j. get-reads m q l ps r j)
     where
       Tail : A → List ℕ → ℕ → Out (List A)
@@ -192,7 +197,7 @@ module _ {A : Type 0} (n : ℕ) (k : Kind A) (law : Law k) (a e : ℕ) (apart : 
           → (o : Out (List A)) → getList n k a e m q l ≡ o → andThen o (λ ps q l. got (p ∷ ps) q l) ≡ got ps r j
           → ((q : List ℕ) (l : ℕ) (ps : List A) (r : List ℕ) (j : ℕ) → getList n k a e m q l ≡ got ps r j → Read m q l ps r j)
           → Read (suc m) s i ps r j
-      deep p q l t f (no x y) z h ih = absurd (let z : _≡_ {A = ℕ} 0 1 = cc in omega arith)
+      deep p q l t f (no x y) z h ih = got-no (sym h)
       deep p q l t f (got ps′ r′ j′) z h ih =
           let e1 : p ∷ ps′ ≡ ps = cc in
           let e2 : r′ ≡ r = cc in
@@ -211,13 +216,15 @@ module _ {A : Type 0} (n : ℕ) (k : Kind A) (law : Law k) (a e : ℕ) (apart : 
       case p q l t false f h ih = deep p q l t f (getList n k a e m q l) refl h ih
 
       go : (o : Out A) → step n k mark s i ≡ o
-          → andThen o (λ p r j. choose (eqb (getD s (k .width) 0) e) (got (p ∷ []) r j) (andThen (getList n k a e m r j) (λ ps q l. got (p ∷ ps) q l))) ≡ got ps r j
+          → andThen o (λ p r j. choose (eqb (getD s (k .width) 0) e) (got (p ∷ []) r j) (andThen (getList n k a e m r j) (λ ps q l. got (p ∷ ps) q l)))
+          ≡ got ps r j
           → ((q : List ℕ) (l : ℕ) (ps : List A) (r : List ℕ) (j : ℕ) → getList n k a e m q l ≡ got ps r j → Read m q l ps r j)
           → Read (suc m) s i ps r j
-      go (no x y) z h ih = absurd (let z : _≡_ {A = ℕ} 0 1 = cc in omega arith)
+      go (no x y) z h ih = got-no (sym h)
       go (got p q l) z h ih = case p q l (step-got n k mark s i p q l z) (eqb (getD s (k .width) 0) e) refl h ih
 
-  get-writes : (m : ℕ) (ps : List A) (r : List ℕ) (i : ℕ) → Listed m ps → getList n k a e m (textList k a e ps ++ r) i ≡ got ps r (i + length (textList k a e ps))
+  get-writes : (m : ℕ) (ps : List A) (r : List ℕ) (i : ℕ) → Listed m ps
+      → getList n k a e m (textList k a e ps ++ r) i ≡ got ps r (i + length (textList k a e ps))
   unfolding Listed
   get-writes zero [] r i h = absurd (omega (arith, h .0))
   get-writes zero (p ∷ ps) r i h = absurd (omega (arith, h .1))
@@ -257,4 +264,6 @@ module _ {A : Type 0} (n : ℕ) (k : Kind A) (law : Law k) (a e : ℕ) (apart : 
   list-length (p ∷ []) l h = length-append (k .put p) (e ∷ []) ∙ omega (arith, law .writes p (and-l (k .ok p) true h) .0)
   list-length (p ∷ (p′ ∷ ps)) l h =
       length-append (k .put p) (a ∷ textList k a e (p′ ∷ ps))
-      ∙ simp (list-length (p′ ∷ ps) (omega arith) (and-r (k .ok p) (every (k .ok) (p′ ∷ ps)) h), law .writes p (and-l (k .ok p) (every (k .ok) (p′ ∷ ps)) h) .0) (omega (arith, mul-suc (k .width + 1) (suc (length ps))))
+      ∙ simp
+      (list-length (p′ ∷ ps) (omega arith) (and-r (k .ok p) (every (k .ok) (p′ ∷ ps)) h), law .writes p (and-l (k .ok p) (every (k .ok) (p′ ∷ ps)) h) .0)
+      (omega (arith, mul-suc (k .width + 1) (suc (length ps))))

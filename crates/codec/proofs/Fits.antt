@@ -1,4 +1,4 @@
--- When a field and its mark stand at index at of a text, by the tests that code makes. Assumes nothing.
+-- When a field and its mark stand at index at of a text, by the tests that code makes.
 use Prim.Native.Nat.{ℕ, _+_, _-_, _≤_, _<_}
 use mathlib.Core.Path.{_≡_}
 use mathlib.Core.List.{List}
@@ -25,7 +25,8 @@ module _ {A : Type 0} (k : Kind A) (mark : ℕ → Bool) (t : List ℕ) (at : �
   unfolding fits
   unmarked h = simp (getD-drop, h, and-false)
 
-  pub good : k .width < length t - at → k .allowed (take (k .width) (drop at t)) ≡ true → mark (getD t (at + k .width) 0) ≡ true → fits k mark (drop at t) ≡ true
+  pub good : k .width < length t - at → k .allowed (take (k .width) (drop at t)) ≡ true → mark (getD t (at + k .width) 0) ≡ true
+      → fits k mark (drop at t) ≡ true
   unfolding fits
   good l h m = simp (lt-ltb (k .width) (length (drop at t)) (omega (arith, length-drop at t)), h, getD-drop, m)
 

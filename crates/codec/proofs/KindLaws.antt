@@ -1,4 +1,4 @@
--- The law of each kind of field: what is read is what is written, each way. Assumes nothing.
+-- The law of each kind of field: what is read is what is written, each way.
 use Prim.Native.Nat.{ℕ, _+_, _^_, _<_}
 use mathlib.Core.Path.{_≡_, refl, sym, ap, _∙_}
 use mathlib.Core.List.{List, [], _∷_, _++_}
@@ -35,12 +35,13 @@ pub pair-law : {A B : Type 0} (j : Kind A) (k : Kind B) → Law j → Law k → 
 pair-law {A} {B} j k lj lk = record { reads = rd; writes = wr }
   where
     rd : (b : List ℕ) → length b ≡ j .width + k .width → j .allowed (take (j .width) b) && k .allowed (drop (j .width) b) ≡ true
-        → (j .ok (j .value (take (j .width) b)) && k .ok (k .value (drop (j .width) b)) ≡ true) × (j .put (j .value (take (j .width) b)) ++ k .put (k .value (drop (j .width) b)) ≡ b)
+        → (j .ok (j .value (take (j .width) b)) && k .ok (k .value (drop (j .width) b)) ≡ true)
+        × (j .put (j .value (take (j .width) b)) ++ k .put (k .value (drop (j .width) b)) ≡ b)
     rd b l h =
         let x : List ℕ = take (j .width) b in
         let y : List ℕ = drop (j .width) b in
-        let rj : (j .ok (j .value x) ≡ true) × (j .put (j .value x) ≡ x) = lj .reads x (length-take-le (j .width) b (omega arith)) (and-l (j .allowed x) (k .allowed y) h) in
-        let rk : (k .ok (k .value y) ≡ true) × (k .put (k .value y) ≡ y) = lk .reads y (length-drop (j .width) b ∙ omega arith) (and-r (j .allowed x) (k .allowed y) h) in
+        let rj = lj .reads x (length-take-le (j .width) b (omega arith)) (and-l (j .allowed x) (k .allowed y) h) in
+        let rk = lk .reads y (length-drop (j .width) b ∙ omega arith) (and-r (j .allowed x) (k .allowed y) h) in
         (and-i (j .ok (j .value x)) (k .ok (k .value y)) (rj .0) (rk .0), simp (rj .1, rk .1) (take-append-drop (j .width) b))
 
     wr : (v : A × B) → j .ok (v .0) && k .ok (v .1) ≡ true
@@ -67,7 +68,7 @@ tag-law {A} w k l = record { reads = rd; writes = wr }
     rd b e h =
         let y : List ℕ = drop (length w) b in
         let ew : take (length w) b ≡ w = same-eq (take (length w) b) w (and-l (same (take (length w) b) w) (k .allowed y) h) in
-        let r : (k .ok (k .value y) ≡ true) × (k .put (k .value y) ≡ y) = l .reads y (length-drop (length w) b ∙ omega arith) (and-r (same (take (length w) b) w) (k .allowed y) h) in
+        let r = l .reads y (length-drop (length w) b ∙ omega arith) (and-r (same (take (length w) b) w) (k .allowed y) h) in
         (r .0, (λ i. sym ew i ++ r .1 i) ∙ take-append-drop (length w) b)
 
     wr : (v : A) → k .ok v ≡ true
@@ -97,7 +98,8 @@ kept-law {A} {B} p to from k l back forth = record { reads = rd; writes = wr }
         (simp (f, r .0, hp), simp (f, r .1))
 
     wr : (v : B) → k .ok (from v) && p (from v) ≡ true
-        → (length (k .put (from v)) ≡ k .width) × (k .allowed (k .put (from v)) && p (k .value (k .put (from v))) ≡ true) × (to (k .value (k .put (from v))) ≡ v)
+        → (length (k .put (from v)) ≡ k .width) × (k .allowed (k .put (from v)) && p (k .value (k .put (from v))) ≡ true)
+        × (to (k .value (k .put (from v))) ≡ v)
     wr v h =
         let w = l .writes (from v) (and-l (k .ok (from v)) (p (from v)) h) in
         let hp : p (from v) ≡ true = and-r (k .ok (from v)) (p (from v)) h in

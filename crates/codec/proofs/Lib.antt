@@ -1,3 +1,4 @@
+pub mod Apart
 pub mod KindLaws
 pub mod CodecLaws
 pub mod Fits

@@ -1,11 +1,14 @@
--- The promises leave no choice: two answers with two final contents that both meet one are equal. Assumes nothing.
-use Prim.Native.Nat.{ℕ, _+_, _<_}
-use mathlib.Core.Path.{_≡_, sym, _∙_}
+-- The promises leave no choice: two answers with two final contents that both meet one are equal. And a refusal writes nothing.
+use Prim.Native.Nat.{ℕ}
+use mathlib.Core.Path.{_≡_, refl, sym, ap, _∙_}
 use mathlib.Core.List.{List}
-use mathlib.Core.Bool.{Bool}
+use mathlib.Core.Bool.{Bool, true, false}
 use lib.ListN.{length}
-use borrow.Author.Tests.{lt-leb}
-use Rattle.codec.specs.Promise.{BetweenPromise, SamePromise, DigitsAtPromise, PutPromise}
+use Rattle.laws.specs.Order.{isRefusal}
+use Rattle.laws.specs.Space.{pasted}
+use Rattle.laws.proofs.Tests.{impossible}
+use Rattle.laws.proofs.Order.{refusal-leaves}
+use Rattle.codec.specs.Promise.{BetweenPromise, SamePromise, DigitsAtPromise, putSays, saidPut, PutPromise}
 use Rattle.codec.specs.declared.Number.{Number}
 
 pub between-no-choice : {lo hi b : ℕ} {r r′ : Bool} → BetweenPromise lo hi b r → BetweenPromise lo hi b r′ → r ≡ r′
@@ -18,9 +21,15 @@ pub digits-at-no-choice : {t : List ℕ} {at width : ℕ} {r r′ : Number} → 
 digits-at-no-choice p q = p .says ∙ sym (q .says)
 
 -- of put_byte, put_bytes, put_count and put_digits
-pub put-no-choice : {d s : List ℕ} {at : ℕ} {d1 d2 : List ℕ} {r1 r2 : ℕ} → PutPromise d at s d1 r1 → PutPromise d at s d2 r2 → (r1 ≡ r2) × (d1 ≡ d2)
-put-no-choice p q = (p .next ∙ sym (q .next), p .space ∙ sym (q .space))
+said-one : (r q : Bool) → saidPut r ≡ saidPut q → r ≡ q
+said-one true true e = refl
+said-one true false e = impossible (ap isRefusal e)
+said-one false true e = impossible (ap isRefusal (sym e))
+said-one false false e = refl
 
--- where there is no room, nothing is written
-pub put-writes-nothing : {d s : List ℕ} {at : ℕ} {d1 : List ℕ} {r : ℕ} → PutPromise d at s d1 r → length d < at + length s → (r ≡ at) × (d1 ≡ d)
-put-writes-nothing {d} {s} {at} p h = (p .next ∙ simp (lt-leb (at + length s) (length d) h), p .space ∙ simp (lt-leb (at + length s) (length d) h))
+pub put-no-choice : {d s : List ℕ} {at : ℕ} {r q : Bool} {d1 d2 : List ℕ} → PutPromise d at s r d1 → PutPromise d at s q d2 → (r ≡ q) × (d1 ≡ d2)
+put-no-choice {r = r} {q = q} a b = (said-one r q (a .says ∙ sym (b .says)), a .space ∙ sym (b .space))
+
+pub put-refusal-writes-nothing : {d s : List ℕ} {at : ℕ} {r : Bool} {d′ : List ℕ} → PutPromise d at s r d′ → isRefusal (saidPut r) ≡ true → d′ ≡ d
+put-refusal-writes-nothing {d} {s} {at} a h =
+    a .space ∙ refusal-leaves (λ u out. pasted out at s) (putSays s at (length d)) d (ap isRefusal (sym (a .says)) ∙ h)

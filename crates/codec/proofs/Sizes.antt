@@ -1,4 +1,4 @@
--- How long a text is, once for each way of putting codecs together. Assumes nothing.
+-- How long a text is, once for each way of putting codecs together.
 use Prim.Native.Nat.{ℕ, _+_, _*_, _≤_}
 use mathlib.Core.Path.{_≡_, _∙_}
 use mathlib.Core.List.{[], _∷_}
@@ -36,5 +36,6 @@ list-sized m n k a e law apart = record {
       let wi : within 1 m (length ps) ≡ true = and-l (within 1 m (length ps)) (every (k .ok) ps) ok in
       let lo : 1 ≤ length ps = within-lo 1 m (length ps) wi in
       let hi : length ps ≤ m = within-hi 1 m (length ps) wi in
-      (list-length n k law a e apart ps lo (and-r (within 1 m (length ps)) (every (k .ok) ps) ok), mul-le-mul-left (k .width + 1) lo, mul-le-mul-left (k .width + 1) hi);
+      let l = list-length n k law a e apart ps lo (and-r (within 1 m (length ps)) (every (k .ok) ps) ok) in
+      (l, mul-le-mul-left (k .width + 1) lo, mul-le-mul-left (k .width + 1) hi);
 }

@@ -11,6 +11,7 @@ use Rattle.laws.specs.Order.{choose}
 use Rattle.codec.specs.Kind.{Kind}
 use Rattle.codec.specs.Codec.{Out, got, no, andThen, fits, step, is, Codec, field, _▷_}
 use Rattle.codec.specs.Law.{Lawful}
+use Rattle.codec.proofs.Apart.{got-no}
 
 -- ---- what is read leaves the text from the next index on
 
@@ -46,7 +47,7 @@ step-told n k mark s i v r j e = go (fits k mark s) e
     go : (b : Bool) → choose b (got (k .value (take (k .width) s)) (drop (k .width + 1) s) (i + (k .width + 1))) (no n i) ≡ got v r j
         → (b ≡ true) × (k .value (take (k .width) s) ≡ v) × (drop (k .width + 1) s ≡ r) × (i + (k .width + 1) ≡ j)
     go true e = (refl, cc, cc, cc)
-    go false e = absurd (let z : _≡_ {A = ℕ} 0 1 = cc in omega arith)
+    go false e = got-no (sym e)
 
 module _ {A : Type 0} (n : ℕ) (k : Kind A) (m : ℕ) (t : List ℕ) (i : ℕ) where
   pub field-no : fits k (is m) (drop i t) ≡ false → no n i ≡ field n k m .get (drop i t) i

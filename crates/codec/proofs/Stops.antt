@@ -1,4 +1,4 @@
--- Where reading stops, in both directions, once for each way of putting codecs together. Assumes nothing.
+-- Where reading stops, in both directions, once for each way of putting codecs together.
 use Prim.Native.Nat.{ℕ, zero, suc, _+_}
 use mathlib.Core.Path.{_≡_, refl, _∙_}
 use mathlib.Core.List.{List, [], _∷_}
@@ -10,6 +10,7 @@ use Rattle.laws.specs.Order.{choose}
 use Rattle.codec.specs.Kind.{Kind}
 use Rattle.codec.specs.Codec.{Out, got, no, andThen, fits, step, is, either, Codec, field, _▷_, getList}
 use Rattle.codec.specs.Law.{Stops, first, second, ListStops, full, bad, later}
+use Rattle.codec.proofs.Apart.{got-no}
 
 -- ---- one after the other
 
@@ -17,8 +18,9 @@ module _ {A B : Type 0} (c : Codec A) (d : Codec B) (s : List ℕ) (i n j : ℕ)
   pub then-stops : (c ▷ d) .get s i ≡ no n j → Stops c d s i n j
   then-stops e = go (c .get s i) refl e
     where
-      end : (a : A) (r : List ℕ) (l : ℕ) → c .get s i ≡ got a r l → (o : Out B) → d .get r l ≡ o → andThen {B = A × B} o (λ b q l. got (a, b) q l) ≡ no n j → Stops c d s i n j
-      end a r l h (got b q m) k e = absurd (let z : _≡_ {A = ℕ} 0 1 = cc in omega arith)
+      end : (a : A) (r : List ℕ) (l : ℕ) → c .get s i ≡ got a r l → (o : Out B) → d .get r l ≡ o
+          → andThen {B = A × B} o (λ b q l. got (a, b) q l) ≡ no n j → Stops c d s i n j
+      end a r l h (got b q m) k e = got-no e
       end a r l h (no x y) k e = let ex : x ≡ n = cc in let ey : y ≡ j = cc in second a r l h (k ∙ (λ q. no (ex q) (ey q)))
 
       go : (o : Out A) → c .get s i ≡ o → andThen {B = A × B} o (λ a r j. andThen (d .get r j) (λ b q l. got (a, b) q l)) ≡ no n j → Stops c d s i n j
@@ -37,7 +39,7 @@ module _ {A : Type 0} (n : ℕ) (k : Kind A) (mark : ℕ → Bool) (s : List ℕ
     where
       go : (b : Bool) → fits k mark s ≡ b → choose b (got (k .value (take (k .width) s)) (drop (k .width + 1) s) (i + (k .width + 1))) (no n i) ≡ no x j
           → (b ≡ false) × (x ≡ n) × (j ≡ i)
-      go true h e = absurd (let z : _≡_ {A = ℕ} 0 1 = cc in omega arith)
+      go true h e = got-no e
       go false h e = (refl, cc, cc)
 
   pub stops-step : fits k mark s ≡ false → step n k mark s i ≡ no n i
@@ -70,7 +72,7 @@ module _ {A : Type 0} (n : ℕ) (k : Kind A) (a e : ℕ) where
       rest = getList n k a e m (drop (w + 1) s) (i + (w + 1))
 
       deep : (o : Out (List A)) → rest ≡ o → andThen o (λ ps q l. got (v ∷ ps) q l) ≡ no x j → rest ≡ no x j
-      deep (got ps q l) z h = absurd (let z : _≡_ {A = ℕ} 0 1 = cc in omega arith)
+      deep (got ps q l) z h = got-no h
       deep (no y l) z h = let ey : y ≡ x = cc in let el : l ≡ j = cc in z ∙ (λ q. no (ey q) (el q))
 
       go : (b : Bool) → fits k (either a e) s ≡ b → (l : Bool) → eqb (getD s w 0) e ≡ l
@@ -79,7 +81,7 @@ module _ {A : Type 0} (n : ℕ) (k : Kind A) (a e : ℕ) where
           → (rest ≡ no x j → (x ≡ n) × ListStops k a e m (drop (w + 1) s) (i + (w + 1)) j)
           → (x ≡ n) × ListStops k a e (suc m) s i j
       go false f l g h ih = let q : x ≡ n = cc in let ej : i ≡ j = cc in (q, rw (← ej) (bad f))
-      go true f true g h ih = absurd (let z : _≡_ {A = ℕ} 0 1 = cc in omega arith)
+      go true f true g h ih = got-no h
       go true f false g h ih = let r = ih (deep rest refl h) in (r .0, later f g (r .1))
 
   pub stops-list : (m : ℕ) (s : List ℕ) (i j : ℕ) → ListStops k a e m s i j → getList n k a e m s i ≡ no n j

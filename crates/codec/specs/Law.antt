@@ -15,7 +15,8 @@ pub record Law {A : Type 0} (k : Kind A) : Type 0 where
 
 -- a value that is read has no fault, and the bytes read are its text; the text of a value with no fault reads to it
 pub record Lawful {A : Type 0} (c : Codec A) : Type 0 where
-  pub reads : (s : List ℕ) (i : ℕ) (v : A) (r : List ℕ) (j : ℕ) → c .get s i ≡ got v r j → Quiet (c .faults v) × (s ≡ c .text v ++ r) × (j ≡ i + length (c .text v))
+  pub reads : (s : List ℕ) (i : ℕ) (v : A) (r : List ℕ) (j : ℕ) → c .get s i ≡ got v r j
+      → Quiet (c .faults v) × (s ≡ c .text v ++ r) × (j ≡ i + length (c .text v))
   pub writes : (v : A) (r : List ℕ) (i : ℕ) → Quiet (c .faults v) → c .get (c .text v ++ r) i ≡ got v r (i + length (c .text v))
 
 -- how long the text of an allowed value is, and within which bounds

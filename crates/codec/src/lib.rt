@@ -7,7 +7,7 @@ ghost use Rattle.codec.specs.Promise.{BetweenPromise, SamePromise, Digit
 // What digits say: a number, or none where they are no digits or too many or do not stand there.
 pub enum Number {
     Is(u32),
-    None,
+    NoNumber,
 }
 
 fn wide(b: u8) -> u32
@@ -43,25 +43,26 @@ pub fn same(a: &[u8], b: &[u8]) -> bool
     true
 }
 
-// The number that the digits at index at make. At most nine, so that it fits.
+// The number that the width digits at index at make; none where one is no digit, where fewer bytes stand there, or where width is
+// over 9, so that it fits.
 pub fn digits_at(text: &[u8], at: usize, width: usize) -> Number
     ensures { λ r. ⌜ DigitsAtPromise (now (text .entry)) at width r ⌝ }
 {
     if 9 < width {
-        return Number::None;
+        return Number::NoNumber;
     }
     if text.len() < at {
-        return Number::None;
+        return Number::NoNumber;
     }
     if text.len() - at < width {
-        return Number::None;
+        return Number::NoNumber;
     }
     let mut n: u32 = 0;
     let mut k: usize = 0;
     while k < width {
         let b = text[at + k];
         if !between(48, 57, b) {
-            return Number::None;
+            return Number::NoNumber;
         }
         n = n * 10 + (wide(b) - 48);
         k += 1;
@@ -69,44 +70,44 @@ pub fn digits_at(text: &[u8], at: usize, width: usize) -> Number
     Number::Is(n)
 }
 
-// One byte at index at. Returns the index after it; where it does not fit, at, and nothing is written.
-pub fn put_byte(out: &mut [u8], at: usize, b: u8) -> usize
-    ensures { λ r. ⌜ PutPromise (now (out .entry)) at (b ∷ []) (now (out .exit)) r ⌝ }
+// One byte at index at. Answers whether there is room for it; where there is none, nothing is written.
+pub fn put_byte(out: &mut [u8], at: usize, b: u8) -> bool
+    ensures { λ r. ⌜ PutPromise (now (out .entry)) at (b ∷ []) r (now (out .exit)) ⌝ }
 {
     if out.len() <= at {
-        return at;
+        return false;
     }
     out[at] = b;
-    at + 1
+    true
 }
 
 // Some bytes at index at; else as put_byte.
-pub fn put_bytes(out: &mut [u8], at: usize, src: &[u8]) -> usize
-    ensures { λ r. ⌜ PutPromise (now (out .entry)) at (now (src .entry)) (now (out .exit)) r ⌝ }
+pub fn put_bytes(out: &mut [u8], at: usize, src: &[u8]) -> bool
+    ensures { λ r. ⌜ PutPromise (now (out .entry)) at (now (src .entry)) r (now (out .exit)) ⌝ }
 {
     if out.len() < at {
-        return at;
+        return false;
     }
     if out.len() - at < src.len() {
-        return at;
+        return false;
     }
     let mut k: usize = 0;
     while k < src.len() {
         out[at + k] = src[k];
         k += 1;
     }
-    at + k
+    true
 }
 
 // The last width digits of a count at index at, from the right; else as put_byte.
-pub fn put_count(out: &mut [u8], at: usize, n: usize, width: usize) -> usize
-    ensures { λ r. ⌜ PutPromise (now (out .entry)) at (dig width n) (now (out .exit)) r ⌝ }
+pub fn put_count(out: &mut [u8], at: usize, n: usize, width: usize) -> bool
+    ensures { λ r. ⌜ PutPromise (now (out .entry)) at (dig width n) r (now (out .exit)) ⌝ }
 {
     if out.len() < at {
-        return at;
+        return false;
     }
     if out.len() - at < width {
-        return at;
+        return false;
     }
     let mut v = n;
     let mut k = width;
@@ -115,12 +116,12 @@ pub fn put_count(out: &mut [u8], at: usize, n: usize, width: usize) -> usize
         out[at + k] = (48 + v % 10) as u8;
         v = v / 10;
     }
-    at + width
+    true
 }
 
 // The last width digits of n, which is such a number as digits_at gives.
-pub fn put_digits(out: &mut [u8], at: usize, n: u32, width: usize) -> usize
-    ensures { λ r. ⌜ PutPromise (now (out .entry)) at (dig width n) (now (out .exit)) r ⌝ }
+pub fn put_digits(out: &mut [u8], at: usize, n: u32, width: usize) -> bool
+    ensures { λ r. ⌜ PutPromise (now (out .entry)) at (dig width n) r (now (out .exit)) ⌝ }
 {
     put_count(out, at, n as usize, width)
 }

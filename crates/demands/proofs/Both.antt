@@ -1,4 +1,4 @@
--- The lines marked P, proved. Assumes nothing.
+-- The lines marked P: each is a case of the crate that holds the definition, by computing.
 use mathlib.Core.Path.{_≡_, refl, _∙_}
 use mathlib.Core.Bool.{true, false}
 use mathlib.Core.List.{List}
@@ -9,7 +9,7 @@ use Rattle.header.specs.Reading.{readSays}
 use Rattle.clock.specs.Clock.{hasDay, isClock}
 use Rattle.clock.specs.Lifetime.{yearOf}
 use Rattle.clock.specs.declared.Clock.{Clock}
-use Rattle.book_rules.specs.Form.{plain, badClient}
+use Rattle.book_rules.specs.Form.{form, badClient}
 use Rattle.book_rules.specs.Rules.{good}
 use Rattle.report.specs.Report.{alertSays, listSays, reportSays}
 use Rattle.burst.proofs.Cases.{text-52, empty-2, clash-3}
@@ -24,11 +24,12 @@ unfolding hasDay
 no-366 year day y d = rw (y, d)
 
 report-366 : (book : List ℕ) (client : ℕ) (text : List ℕ) (a : Alert) (at : Clock) (room : ℕ)
-    → good plain book ≡ true → badClient client ≡ false → readSays text ≡ granted a → a .day ≡ 366 → isClock at ≡ true → at .year ≡ 2023
+    → good form book ≡ true → badClient client ≡ false → readSays text ≡ granted a → a .day ≡ 366 → isClock at ≡ true → at .year ≡ 2023
     → reportSays book client text at room ≡ refused 14
 unfolding reportSays listSays alertSays
 report-366 book client text a at room g b r d c y =
-    let n : hasDay (yearOf at (a .day) (a .hour) (a .minute)) (a .day) ≡ false = no-366 (yearOf at (a .day) (a .hour) (a .minute)) (a .day) (year-is at (a .day) (a .hour) (a .minute) ∙ y) d in
+    let year : ℕ = yearOf at (a .day) (a .hour) (a .minute) in
+    let n : hasDay year (a .day) ≡ false = no-366 year (a .day) (year-is at (a .day) (a .hour) (a .minute) ∙ y) d in
     rw (g, b, r, c, n)
 
 pub both-sides : BothSides

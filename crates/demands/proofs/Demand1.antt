@@ -1,57 +1,68 @@
--- Demand 1, proved: each line by the theorem of the call's own crate. Assumes nothing.
-use mathlib.Core.Path.{_≡_, refl, sym, ap, _∙_}
+-- Demand 1: each line is the theorem of the call's own crate; the numbers go by the rows of the definitions.
+use mathlib.Core.Path.{_≡_, refl}
 use mathlib.Core.Bool.{Bool, true, false, _&&_, not}
-use mathlib.Core.List.{List, [], _∷_}
+use mathlib.Core.List.{List, [], _∷_, _++_}
 use Prim.Native.Nat.{ℕ, _*_}
 use lib.ListN.{length}
 use lib.Dec.{eqb, ltb}
-use Rattle.laws.specs.Order.{Said, granted, refused, refusedAt, _when_, isRefusal}
+use Rattle.laws.specs.Order.{granted, refused, _when_, passes}
+use Rattle.laws.proofs.Order.{passes-rows, passes-next}
 use Rattle.laws.specs.Lists.{every}
 use Rattle.laws.specs.Numbers.{within}
-use Rattle.codec.proofs.NoChoice.{between-no-choice, same-no-choice, digits-at-no-choice, put-no-choice, put-writes-nothing}
+use Rattle.codec.proofs.NoChoice.{between-no-choice, same-no-choice, digits-at-no-choice, put-no-choice, put-refusal-writes-nothing}
+use Rattle.codec.specs.Promise.{putSays}
 use Rattle.burst.specs.Vote.{voteSays}
 use Rattle.burst.proofs.NoChoice.{leading-no-choice, strip-no-choice, vote-no-choice, vote-refusal-writes-nothing}
 use Rattle.header.specs.Header.{Alert, isOrigin, isEvent, isIssue, isSender, isDuration, issue, front, header, textOf}
 use Rattle.header.specs.Writing.{writeSays}
 use Rattle.header.proofs.Allowed.{issue-ok}
-use Rattle.header.proofs.NoChoice.{read-no-choice, write-no-choice, is-issue-no-choice, is-duration-no-choice, is-origin-no-choice, is-event-no-choice, is-sender-no-choice, is-written-no-choice, read-refusal-writes-nothing, write-refusal-writes-nothing}
+use Rattle.header.proofs.NoChoice.{read-no-choice, write-no-choice, read-refusal-writes-nothing, write-refusal-writes-nothing}
+use Rattle.header.proofs.NoChoice.{is-issue-no-choice, is-duration-no-choice, is-duration-of-no-choice}
+use Rattle.header.proofs.NoChoice.{is-origin-no-choice, is-event-no-choice, is-sender-no-choice}
 use Rattle.header_fields.proofs.NoChoice.{stands-no-choice, place-at-no-choice, minutes-at-no-choice, issue-at-no-choice}
 use Rattle.header.proofs.Stopping.{read-stops, stops-read, table-stops, stops-table}
-use Rattle.event.proofs.NoChoice.{is-listed-no-choice, class-of-no-choice, kind-of-no-choice}
-use Rattle.place.proofs.NoChoice.{matches-no-choice, matches-some-no-choice, first-word-no-choice, place-of-no-choice, bad-place-no-choice, pack-no-choice, pack-places-no-choice, packed-match-some-no-choice}
+use Rattle.event.proofs.NoChoice.{is-listed-no-choice, class-of-no-choice, listed-class-no-choice}
+use Rattle.place.proofs.NoChoice.{matches-no-choice, matches-some-no-choice, first-word-no-choice, place-of-no-choice, bad-place-no-choice}
+use Rattle.place.proofs.NoChoice.{pack-no-choice, pack-places-no-choice, packed-match-some-no-choice}
 use Rattle.clock.specs.Clock.{hasDay, isClock}
 use Rattle.clock.specs.Lifetime.{yearOf, lifetimeOf, timesOf}
 use Rattle.clock.specs.Answers.{clockSays, dateSays, asked, lifetimeSays, timesSays}
 use Rattle.clock.proofs.NoChoice.{check-no-choice, date-of-no-choice, lifetime-no-choice, times-of-no-choice}
 use Rattle.book_rules.specs.Edits.{addSays, added, removeSays}
-use Rattle.book_rules.specs.Form.{plain}
+use Rattle.book_rules.specs.Form.{form}
 use Rattle.book_rules.specs.Rules.{empty}
 use Rattle.book_rules.specs.Afresh.{subs}
-use Rattle.book_rules.specs.Load.{Sub, items, addAll, loadSays}
+use Rattle.book_rules.specs.Subscription.{Sub}
+use Rattle.book_rules.specs.Load.{items, addAll, loadSays}
 use Rattle.header.specs.Reading.{readSays}
 use Rattle.report.specs.Hits.{hitsOf}
-use Rattle.book_records.proofs.NoChoice.{bad-client-no-choice, bad-wish-no-choice, client-of-no-choice, wish-of-no-choice, mark-or-none-no-choice, rank-of-no-choice, rank-or-none-no-choice}
+use Rattle.book_records.proofs.NoChoice.{bad-client-no-choice, bad-wish-no-choice, client-of-no-choice, wish-of-no-choice}
+use Rattle.book_records.proofs.NoChoice.{mark-or-none-no-choice, rank-of-no-choice, rank-or-none-no-choice}
 use Rattle.book_check.proofs.NoChoice.{is-good-no-choice}
 use Rattle.book_shifts.proofs.NoChoice.{open-no-choice, close-no-choice}
 use Rattle.sorting.proofs.NoChoice.{sort-no-choice}
-use Rattle.book_edits.proofs.NoChoice.{add-no-choice, remove-no-choice, add-each-no-choice, add-refusal-writes-nothing, remove-refusal-writes-nothing}
-use Rattle.book_loads.proofs.NoChoice.{load-no-choice, load-refusal-writes-nothing}
+use Rattle.book_edits.proofs.NoChoice.{
+  add-no-choice,
+  remove-no-choice,
+  load-no-choice,
+  add-refusal-writes-nothing,
+  remove-refusal-writes-nothing,
+  load-refusal-writes-nothing,
+}
 use Rattle.clock.specs.declared.Clock.{Clock}
-use Rattle.report.specs.Report.{Full, alertSays, listSays, reportSays}
-use Rattle.report.specs.Answers.{verdictOf, answerOf}
-use Rattle.report.specs.Promise.{ReportPromise}
-use Rattle.report.specs.declared.Answer.{Answer}
+use Rattle.report.specs.Report.{timesRows, roomRows, alertSays, listSays, reportSays}
 use Rattle.report.proofs.NoChoice.{report-no-choice, report-refusal-writes-nothing}
 use Rattle.input_lines.proofs.NoChoice.{now-line-no-choice, client-line-no-choice, header-line-no-choice, sub-line-no-choice}
-use Rattle.page_lines.proofs.NoChoice.{size-of-no-choice, parts-no-choice}
+use Rattle.page_lines.proofs.NoChoice.{size-of-no-choice}
 use Rattle.c_answers.proofs.NoChoice.{cap-no-choice, answer-no-choice, voted-no-choice, edited-no-choice, printed-no-choice, wrote-no-choice, yes-no-choice}
 use Rattle.page_printing.specs.Promise.{printSays}
 use Rattle.page_printing.proofs.NoChoice.{print-no-choice, print-refusal-writes-nothing}
 use Rattle.page.proofs.NoChoice.{page-no-choice, page-refusal-writes-nothing}
-use Rattle.demands.specs.Forms.{GoesBy, numbered}
-use Rattle.demands.specs.Demand1.{verdictSays, saidReport, EveryCall, EveryRefusal, EveryNumber, EveryNumbered, Demand1}
+use Rattle.demands.specs.Forms.{GoesBy, isNumber, numbered}
+use Rattle.demands.specs.Demand1.{EveryCall, EveryRefusal, EveryNumber, EveryNumbered, Demand1}
 use Rattle.demands.proofs.Rows.{by-rows}
-use Rattle.demands.proofs.Numbered.{numbered-rows, numbered-by, numbered-next, numbered-read}
+use Rattle.demands.proofs.Numbered.{isLow, passes-by, low-read, low-numbered, numbered-by}
+use Rattle.demands.proofs.Program.{program-numbers}
 use Rattle.demands.proofs.Outside.{outside-call, outside-refusal, outside-number}
 
 pub every-call : EveryCall
@@ -66,7 +77,7 @@ every-call = record {
   is-origin = λ b r q p u. is-origin-no-choice p u;
   is-event = λ b r q p u. is-event-no-choice p u;
   is-sender = λ b r q p u. is-sender-no-choice p u;
-  is-written = λ hours minutes r q a b. is-written-no-choice a b;
+  is-duration-of = λ hours minutes r q a b. is-duration-of-no-choice a b;
   start-at = λ text at r q a b. stands-no-choice a b;
   origin-at = λ text at r q a b. stands-no-choice a b;
   event-at = λ text at r q a b. stands-no-choice a b;
@@ -76,7 +87,7 @@ every-call = record {
   issue-at = λ text at r q a b. issue-at-no-choice a b;
   is-listed = is-listed-no-choice;
   class-of = class-of-no-choice;
-  kind-of = kind-of-no-choice;
+  listed-class = listed-class-no-choice;
   matches = matches-no-choice;
   matches-some = matches-some-no-choice;
   first-word = first-word-no-choice;
@@ -101,7 +112,6 @@ every-call = record {
   is-good = is-good-no-choice;
   add = add-no-choice;
   remove = remove-no-choice;
-  add-each = add-each-no-choice;
   sort = sort-no-choice;
   load = load-no-choice;
   report = report-no-choice;
@@ -110,7 +120,10 @@ every-call = record {
   header-line = λ input at r q a b. header-line-no-choice a b;
   sub-line = λ input at r q a b. sub-line-no-choice a b;
   size-of = λ n r q a b. size-of-no-choice a b;
-  put-parts = λ out at parts r q left rest a b. parts-no-choice a b;
+  put-number = λ out at word n w r q left rest a b. put-no-choice a b;
+  put-text = λ out at word text r q left rest a b. put-no-choice a b;
+  put-stamp = λ out at word s r q left rest a b. put-no-choice a b;
+  put-hits = λ out at hits r q left rest a b. put-no-choice a b;
   print-refusal = λ number out r q left rest a b. print-no-choice a b;
   print-page = λ client times event listed class hits out r q left rest a b. print-no-choice a b;
   page = λ input out r q left rest a b. page-no-choice a b;
@@ -130,19 +143,6 @@ every-call = record {
   outside = outside-call;
 }
 
--- a report's answer says a refusal where the report does
-verdict-refuses : (s : Said Full) → isRefusal (verdictSays (verdictOf s)) ≡ isRefusal s
-verdict-refuses (granted g) = refl
-verdict-refuses (refused n) = refl
-verdict-refuses (refusedAt n i) = refl
-
-report-refuses : (book : List ℕ) (client : ℕ) (text : List ℕ) (at : Clock) (out : List ℕ) (r : Answer) (left : List ℕ)
-    → ReportPromise book client text at out r left → isRefusal (saidReport r) ≡ true → left ≡ out
-unfolding answerOf
-report-refuses book client text at out r left p h =
-    report-refusal-writes-nothing book client text at out r left p
-    (sym (verdict-refuses (reportSays book client text at (length out))) ∙ sym (ap (λ (a : Answer). isRefusal (saidReport a)) (p .says)) ∙ h)
-
 pub every-refusal : EveryRefusal
 every-refusal = record {
   vote = vote-refusal-writes-nothing;
@@ -150,20 +150,25 @@ every-refusal = record {
   add = add-refusal-writes-nothing;
   remove = remove-refusal-writes-nothing;
   load = load-refusal-writes-nothing;
-  report = report-refuses;
+  report = report-refusal-writes-nothing;
   print-refusal = λ number out r left p h. print-refusal-writes-nothing p h;
   print-page = λ client times event listed class hits out r left p h. print-refusal-writes-nothing p h;
   page = λ input out r left p h. page-refusal-writes-nothing p h;
-  put = λ out at bytes left r p h. put-writes-nothing p h .1;
+  put-number = λ out at word n w r left p h. put-refusal-writes-nothing p h;
+  put-text = λ out at word text r left p h. put-refusal-writes-nothing p h;
+  put-stamp = λ out at word s r left p h. put-refusal-writes-nothing p h;
+  put-hits = λ out at hits r left p h. put-refusal-writes-nothing p h;
+  put-byte = λ out at b r left p h. put-refusal-writes-nothing p h;
+  put-bytes = λ out at src r left p h. put-refusal-writes-nothing p h;
+  put-digits = λ out at n width r left p h. put-refusal-writes-nothing p h;
   read = λ text r p h. read-refusal-writes-nothing p h;
   outside = outside-refusal;
 }
 
--- the writer's rows, with the test of an issue in one word
+-- the writer's rows, with the test of an issue in one word; the start is no field that is handed over, so its row never holds
 write-rows : (a : Alert) (room : ℕ) (b : Bool) → issue .ok (a .day, (a .hour, a .minute)) ≡ b → GoesBy
     (
-    refused 5 when false
-    ∷ refused 6 when not (eqb (length (a .origin)) 3 && isOrigin (a .origin))
+    refused 6 when not (eqb (length (a .origin)) 3 && isOrigin (a .origin))
     ∷ refused 7 when not (eqb (length (a .event)) 3 && isEvent (a .event))
     ∷ refused 8 when not (within 1 31 (length (a .places)) && every (λ p. ltb p 1000000) (a .places))
     ∷ refused 9 when not (isDuration (a .minutes))
@@ -177,7 +182,7 @@ unfolding writeSays header front isDuration
 write-rows a room b e = rw (← e) (by-rows _ _)
 
 pub every-number : EveryNumber
-unfolding voteSays clockSays dateSays asked lifetimeSays timesSays addSays removeSays loadSays reportSays listSays alertSays printSays
+unfolding voteSays clockSays dateSays asked lifetimeSays timesSays addSays removeSays loadSays reportSays listSays alertSays printSays putSays
 every-number = record {
   vote = λ a b c room. by-rows _ _;
   read-says = read-stops;
@@ -195,38 +200,48 @@ every-number = record {
   load = λ book list. by-rows _ _;
   report = λ book client text at room. by-rows _ _;
   print = λ text room. by-rows _ _;
+  put = λ bytes at room. by-rows _ _;
 }
 
+-- an addition and a report never give 23, which is the program's
+low-add : (book : List ℕ) (place client wish : ℕ) → passes isLow isLow (addSays form book place client wish) ≡ true
+low-add book place client wish = passes-by isLow isLow (every-number .add book place client wish) refl refl
+
+low-report : (book : List ℕ) (client : ℕ) (text : List ℕ) (at : Clock) (room : ℕ) → passes isLow isLow (reportSays book client text at room) ≡ true
+unfolding alertSays
+low-report book client text at room =
+    passes-by isLow isLow (every-number .report book client text at room) refl
+    (passes-next isLow isLow (readSays text) (λ a. alertSays at room a (hitsOf client a (subs form book))) (low-read text)
+    (λ a. passes-rows isLow isLow (timesRows at a ++ roomRows room (hitsOf client a (subs form book))) _ refl refl))
+
 -- of each item of a load
-items-numbered : (w : List ℕ) (xs : List Sub) → numbered (addAll plain w xs) ≡ true
+items-numbered : (w : List ℕ) (xs : List Sub) → numbered (addAll form w xs) ≡ true
 unfolding addAll
 items-numbered w [] = refl
 items-numbered w (x ∷ xs) =
-    numbered-next (addSays plain w (x .place) (x .client) (x .wish)) (λ u. addAll plain (added plain (x .place) (x .client) (x .wish) w) xs)
-    (numbered-by (every-number .add w (x .place) (x .client) (x .wish)) refl refl) (λ u. items-numbered (added plain (x .place) (x .client) (x .wish) w) xs)
+    passes-next isNumber isNumber (addSays form w (x .place) (x .client) (x .wish)) (λ u. addAll form (added form (x .place) (x .client) (x .wish) w) xs)
+    (numbered-by (every-number .add w (x .place) (x .client) (x .wish)) refl refl) (λ u. items-numbered (added form (x .place) (x .client) (x .wish) w) xs)
 
 pub every-numbered : EveryNumbered
 unfolding lifetimeSays timesSays
 every-numbered = record {
   vote = λ a b c room. numbered-by (every-number .vote a b c room) refl refl;
-  read = numbered-read;
+  read = λ text. low-numbered (readSays text) (low-read text);
   write = λ a room. numbered-by (every-number .write a room) refl refl;
   check = λ at. numbered-by (every-number .check at) refl refl;
   date-of = λ year day. numbered-by (every-number .date-of year day) refl refl;
-  lifetime = λ at day hour minute duration. numbered-next (asked at day hour minute duration) (λ u. granted (lifetimeOf at day hour minute duration))
+  lifetime = λ at day hour minute duration.
+      passes-next isNumber isNumber (asked at day hour minute duration) (λ u. granted (lifetimeOf at day hour minute duration))
       (numbered-by (every-number .asked-of at day hour minute duration) refl refl) (λ u. refl);
-  times-of = λ at day hour minute duration. numbered-next (asked at day hour minute duration) (λ u. granted (timesOf at day hour minute duration))
+  times-of = λ at day hour minute duration.
+      passes-next isNumber isNumber (asked at day hour minute duration) (λ u. granted (timesOf at day hour minute duration))
       (numbered-by (every-number .asked-of at day hour minute duration) refl refl) (λ u. refl);
-  add = λ book place client wish. numbered-by (every-number .add book place client wish) refl refl;
+  add = λ book place client wish. low-numbered (addSays form book place client wish) (low-add book place client wish);
   remove = λ book place client. numbered-by (every-number .remove book place client) refl refl;
   load = λ book list. numbered-by (every-number .load book list) refl (items-numbered empty (items list));
-  report = λ book client text at room. numbered-by (every-number .report book client text at room) refl
-      (numbered-next (readSays text) _ (numbered-read text) (λ a. numbered-rows
-      (refused 15 when not (isClock at)
-      ∷ refused 14 when not (hasDay (yearOf at (a .day) (a .hour) (a .minute)) (a .day))
-      ∷ refused 13 when ltb room (2 * length (hitsOf client a (subs plain book)))
-      ∷ []) _ refl refl));
+  report = λ book client text at room. low-numbered (reportSays book client text at room) (low-report book client text at room);
   print = λ text room. numbered-by (every-number .print text room) refl refl;
+  put = λ bytes at room. numbered-by (every-number .put bytes at room) refl refl;
 }
 
 pub demand1 : Demand1
@@ -235,5 +250,6 @@ demand1 = record {
   every-refusal = every-refusal;
   every-number = every-number;
   every-numbered = every-numbered;
+  program-numbers = program-numbers low-add low-report;
   outside-number = outside-number every-numbered;
 }

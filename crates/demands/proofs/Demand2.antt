@@ -1,4 +1,4 @@
--- Demand 2, proved: each line by the theorem of the crate that holds the definition. Assumes nothing.
+-- Demand 2: each line is the theorem of the crate that holds the definition.
 use mathlib.Core.Path.{_≡_, refl, ap, _∙_}
 use mathlib.Core.Bool.{not}
 use mathlib.Core.List.{List, [], _∷_, _++_}
@@ -24,11 +24,12 @@ use Rattle.event.specs.Class.{classOf}
 use Rattle.event.proofs.Facts.{sixty-one, no-double, class-low}
 use Rattle.place.proofs.Matching.{matches-says, matches-from, some-none, some-more}
 use Rattle.clock.specs.Lifetime.{momentOf, issueOf, lifetimeOf, timesOf}
-use Rattle.clock.proofs.States.{state-holds, one-state}
+use Rattle.clock.proofs.Asking.{fit}
+use Rattle.clock.proofs.Phases.{phase-holds, one-phase}
 use Rattle.clock.proofs.Until.{until-moment, issue-exists, until-exists, one-time}
 use Rattle.clock.proofs.Dates.{by-months}
 use Rattle.report.specs.Hits.{hasClass, matching}
-use Rattle.demands.specs.Demand2.{Allowed, placesText, wholeText, ReadingAndWriting, Events, Matching, Lifetimes, Voting, Demand2}
+use Rattle.demands.specs.Demand2.{Allowed, spelledPlaces, wholeText, ReadingAndWriting, Events, Matching, Lifetimes, Voting, Demand2}
 use Rattle.demands.proofs.Rows.{by-rows}
 
 form : (a : Alert) → WellFormed a → Allowed a
@@ -50,12 +51,13 @@ back a f =
     more refl
     (more (ap not (and-i (eqb (length (a .origin)) 3) (isOrigin (a .origin)) (eq-eqb (length (a .origin)) 3 (f .origin .0)) (f .origin .1)))
     (more (ap not (and-i (eqb (length (a .event)) 3) (isEvent (a .event)) (eq-eqb (length (a .event)) 3 (f .event .0)) (f .event .1)))
-    (more (ap not (and-i (within 1 31 (length (a .places))) (every (λ p. ltb p 1000000) (a .places)) (within-i 1 31 (length (a .places)) (f .places .0) (f .places .1)) (f .places .2)))
+    (more (ap not (and-i (within 1 31 (length (a .places))) (every (λ p. ltb p 1000000) (a .places))
+    (within-i 1 31 (length (a .places)) (f .places .0) (f .places .1)) (f .places .2)))
     (more (ap not (f .duration .0))
     (more (ap not (issue-ok (a .day) (a .hour) (a .minute) ∙ f .issue))
     (more (ap not (and-i (eqb (length (a .sender)) 8) (isSender (a .sender)) (eq-eqb (length (a .sender)) 8 (f .sender .0)) (f .sender .1))) none))))))
 
-same-places : (ps : List ℕ) → textList place dash plus ps ≡ placesText ps
+same-places : (ps : List ℕ) → textList place dash plus ps ≡ spelledPlaces ps
 same-places [] = refl
 same-places (p ∷ []) = refl
 same-places (p ∷ (q ∷ ps)) = ap (λ (t : List ℕ). dig 6 p ++ (45 ∷ t)) (same-places (q ∷ ps))
@@ -100,11 +102,11 @@ places = record {
 pub lifetimes : Lifetimes
 unfolding lifetimeOf timesOf
 lifetimes = record {
-  state-holds = λ at day hour minute duration. state-holds (momentOf (issueOf at day hour minute)) duration (momentOf at);
-  one-state = one-state;
+  phase-holds = λ at day hour minute duration. phase-holds (momentOf (issueOf at day hour minute)) duration (momentOf at);
+  one-phase = one-phase;
   until-moment = until-moment;
-  issue-exists = issue-exists;
-  until-exists = until-exists;
+  issue-exists = λ at day hour minute duration e. issue-exists at day hour minute duration (fit at day hour minute duration e);
+  until-exists = λ at day hour minute duration e. until-exists at day hour minute duration (fit at day hour minute duration e);
   one-time = one-time;
   told = λ at day hour minute duration. refl;
   date = by-months;

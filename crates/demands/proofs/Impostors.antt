@@ -1,4 +1,4 @@
--- The impostors are shut out. Assumes nothing.
+-- Each impostor against the theorem that shuts it out: the promises fix what is said and left.
 use mathlib.Core.Path.{_≡_, refl, sym, ap, _∙_}
 use mathlib.Core.Bool.{false}
 use mathlib.Core.List.{List}
@@ -17,17 +17,17 @@ use Rattle.place.specs.Place.{matches, matchesSome}
 use Rattle.place.specs.FirstWord.{badPlace}
 use Rattle.clock.specs.Clock.{hasDay, isClock}
 use Rattle.clock.specs.Lifetime.{yearOf}
-use Rattle.book_rules.specs.Form.{plain, badClient, badWish}
+use Rattle.book_rules.specs.Form.{form, badClient, badWish}
 use Rattle.book_rules.specs.Rules.{empty}
 use Rattle.book_rules.specs.Load.{items, loadSays}
 use Rattle.book_rules.specs.Afresh.{Afresh}
 use Rattle.book_rules.specs.History.{Edit, adds, removes, answer, after, standsIn, fullOf, number, standingFrom, standing}
-use Rattle.book_rules.proofs.Form.{plain-laws}
+use Rattle.book_rules.proofs.Form.{form-laws}
 use Rattle.book_history.proofs.Run.{afresh-after}
-use Rattle.book_history.proofs.Proved.{plain-book-and-history}
-use Rattle.book_edits.specs.Answer.{said as saidEdit}
+use Rattle.book_history.proofs.Proved.{form-book-and-history}
+use Rattle.book_edits.specs.Answer.{saidEdited}
 use Rattle.book_edits.specs.Promise.{AddPromise, RemovePromise}
-use Rattle.book_loads.specs.Promise.{LoadPromise}
+use Rattle.book_edits.specs.Promise.{LoadPromise}
 use Rattle.book_edits.specs.declared.Edited.{Edited}
 use Rattle.book_edits.specs.declared.Edited.the-variants.{Done}
 use Rattle.book_edits.proofs.Impostors.{adds-first, removes-last}
@@ -35,8 +35,8 @@ use Rattle.report.specs.Hits.{hasClass, matching, isHit}
 use Rattle.report.specs.Answers.{answerOf}
 use Rattle.report.specs.Exact.{wanted}
 use Rattle.report.specs.Promise.{ReportPromise}
-use Rattle.report.specs.declared.Answer.{Answer}
-use Rattle.report.specs.declared.Verdict.the-variants.{Granted}
+use Rattle.report.specs.declared.ReportAnswer.{ReportAnswer}
+use Rattle.report.specs.declared.ReportVerdict.the-variants.{Granted}
 use Rattle.demands.specs.Calls.{Called}
 use Rattle.header.specs.Samples.{sample, sampleSays}
 use Rattle.demands.specs.Texts.{sampleClock, sampleRun}
@@ -49,31 +49,32 @@ use Rattle.demands.proofs.Demand3.{reports}
 add-changes : (w : List ℕ) (place client wish : ℕ) (r : Edited) (left : List ℕ) → AddPromise w place client wish r left → r ≡ Done → left ≡ w → ⊥
 unfolding answer
 add-changes w place client wish r left p e k =
-    plain-book-and-history .not-idle .changes w (adds place client wish) (sym (p .says) ∙ ap saidEdit e) (sym (add-edits p) ∙ k)
+    form-book-and-history .not-idle .changes w (adds place client wish) (sym (p .says) ∙ ap saidEdited e) (sym (add-edits p) ∙ k)
 
 remove-changes : (w : List ℕ) (place client : ℕ) (r : Edited) (left : List ℕ) → RemovePromise w place client r left → r ≡ Done → left ≡ w → ⊥
 unfolding answer
 remove-changes w place client r left p e k =
-    plain-book-and-history .not-idle .changes w (removes place client) (sym (p .says) ∙ ap saidEdit e) (sym (remove-edits p) ∙ k)
+    form-book-and-history .not-idle .changes w (removes place client) (sym (p .says) ∙ ap saidEdited e) (sym (remove-edits p) ∙ k)
 
 after-load : (w list : List ℕ) (r : Edited) (loaded : List ℕ) (run : List Edit) (z : List ℕ)
-    → LoadPromise w list r loaded → r ≡ Done → Called loaded run z → Afresh plain (standingFrom (items list) run) z
+    → LoadPromise w list r loaded → r ≡ Done → Called loaded run z → Afresh form (standingFrom (items list) run) z
 after-load w list r loaded run z p e c =
-    let f = next-first (loadSays plain w list) (λ b. granted tt) tt (sym (p .says) ∙ ap saidEdit e) in
+    let f = next-first (loadSays form w list) (λ b. granted tt) tt (sym (p .says) ∙ ap saidEdited e) in
     let l : loaded ≡ f .value = p .lent ∙ ap (λ (s : Said (List ℕ)). leaves (λ b d. b) s w) (f .given) in
-    let a : Afresh plain (items list) (f .value) = plain-book-and-history .load-is-building w list .granted-only (f .value) (f .given) .1 in
-    let k : z ≡ after plain (f .value) run = calls loaded run z c ∙ ap (λ (b : List ℕ). after plain b run) l in
-    rw k (afresh-after plain plain-laws run (items list) (f .value) a)
+    let a : Afresh form (items list) (f .value) = form-book-and-history .load-is-building w list .granted-only (f .value) (f .given) .1 in
+    let k : z ≡ after form (f .value) run = calls loaded run z c ∙ ap (λ (b : List ℕ). after form b run) l in
+    rw k (afresh-after form form-laws run (items list) (f .value) a)
 
 -- ---- hits
 
 module _ (client hits : ℕ) (someone : badClient client ≡ false) (has : tally (wanted client sampleSays) (standing sampleRun) ≡ hits)
-    (book out : List ℕ) (r : Answer) (left : List ℕ) (c : Called empty sampleRun book) (room : 2 * hits ≤ length out) (p : ReportPromise book client sample sampleClock out r left) where
+    (book out : List ℕ) (r : ReportAnswer) (left : List ℕ) (c : Called empty sampleRun book) (room : 2 * hits ≤ length out)
+    (p : ReportPromise book client sample sampleClock out r left) where
   counted : (r .verdict ≡ Granted) × (r .summary .hits ≡ hits)
   unfolding isClock hasDay yearOf answerOf
   counted =
       let k = reports .report-exact sampleRun book client sample sampleSays sampleClock out r left c p someone sample-reads refl refl (omega arith) in
-      (ap (λ (a : Answer). a .verdict) (k .says), k .count ∙ has)
+      (ap (λ (a : ReportAnswer). a .verdict) (k .says), k .count ∙ has)
 
 abbrev has : ℕ → ℕ
 has client = tally (wanted client sampleSays) (standing sampleRun)

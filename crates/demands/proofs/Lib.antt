@@ -1,10 +1,16 @@
 pub mod Rows
 pub mod Calls
+pub mod Changes
 pub mod Numbered
+pub mod Program
 pub mod Outside
+pub mod OutsideHistory
+pub mod OutsideWords
+pub mod OutsideDemands
 pub mod Demand1
 pub mod Demand2
 pub mod Demand3
 pub mod Both
 pub mod Impostors
 pub mod Everything
+pub mod Trace

@@ -1,4 +1,4 @@
--- What is said by rows tried from the top goes by them: the paper's sentence on numbers. Assumes nothing.
+-- What is said by rows tried from the top goes by them: the paper's sentence on numbers.
 use mathlib.Core.List.{List}
 use Rattle.laws.specs.Order.{Row, inOrder}
 use Rattle.laws.proofs.Order.{exactly, said-first, said-last}

@@ -16,7 +16,7 @@ use Rattle.place.specs.Place.{matches}
 use Rattle.clock.specs.Clock.{isClock}
 use Rattle.clock.specs.Answers.{dateSays, lifetimeSays, timesSays}
 use Rattle.clock.specs.declared.Clock.{Clock}
-use Rattle.book_rules.specs.Form.{plain, badClient}
+use Rattle.book_rules.specs.Form.{form, badClient}
 use Rattle.book_rules.specs.Rules.{good}
 use Rattle.report.specs.Report.{reportSays}
 use Rattle.header.specs.Samples.{lasting, lasts}
@@ -24,7 +24,8 @@ use Rattle.header.specs.Samples.{lasting, lasts}
 pub record BothSides : Type 0 where
   -- "bytes 54, 5A, 43 (hex) vote to 52, which none of them is": three bursts of one byte each
   pub votes-52 : (out : List ℕ) → 1 ≤ length out
-      → (voteSays (0x54 ∷ []) (0x5A ∷ []) (0x43 ∷ []) (length out) ≡ granted 1) × (voteLeaves (0x54 ∷ []) (0x5A ∷ []) (0x43 ∷ []) out ≡ pasted out 0 (0x52 ∷ []))
+      → (voteSays (0x54 ∷ []) (0x5A ∷ []) (0x43 ∷ []) (length out) ≡ granted 1)
+      × (voteLeaves (0x54 ∷ []) (0x5A ∷ []) (0x43 ∷ []) out ≡ pasted out 0 (0x52 ∷ []))
   pub none-is-52 : some (eqb 0x52) (0x54 ∷ 0x5A ∷ 0x43 ∷ []) ≡ false
   -- "stripped lengths 0, 0, 9 give 2": of bursts none of which is over 268 bytes
   pub lengths-0-0-9 : (a b c : List ℕ) (room : ℕ) → tooLong a b c ≡ false
@@ -56,5 +57,5 @@ pub record BothSides : Type 0 where
   pub lifetime-366 : (at : Clock) (hour minute duration : ℕ) → isClock at ≡ true → at .year ≡ 2023 → isDuration duration ≡ true → isIssue 366 hour minute ≡ true
       → lifetimeSays at 366 hour minute duration ≡ refused 14
   pub report-366 : (book : List ℕ) (client : ℕ) (text : List ℕ) (a : Alert) (at : Clock) (room : ℕ)
-      → good plain book ≡ true → badClient client ≡ false → readSays text ≡ granted a → a .day ≡ 366 → isClock at ≡ true → at .year ≡ 2023
+      → good form book ≡ true → badClient client ≡ false → readSays text ≡ granted a → a .day ≡ 366 → isClock at ≡ true → at .year ≡ 2023
       → reportSays book client text at room ≡ refused 14

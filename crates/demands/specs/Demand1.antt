@@ -1,58 +1,59 @@
 -- Demand 1. Its first half is no statement of this crate: that a call takes any input, ends, and touches nothing outside what it was
 -- lent is what the check proves of every function before its promise counts, and no public function has a precondition.
-use Prim.Native.Nat.{ℕ, _+_, _*_, _<_}
+use Prim.Native.Nat.{ℕ, _+_, _*_}
 use mathlib.Core.Path.{_≡_}
 use mathlib.Core.Bool.{Bool, true, false, _&&_, not}
 use mathlib.Core.List.{List, [], _∷_}
 use lib.ListN.{length}
 use lib.Dec.{eqb, ltb}
 use denote.Ref.{RefT}
-use Rattle.laws.specs.Order.{Said, granted, refused, refusedAt, _when_, inOrder, next, isRefusal}
+use Rattle.laws.specs.Order.{granted, refused, refusedAt, _when_, inOrder, next, isRefusal}
 use Rattle.laws.specs.Lists.{every}
 use Rattle.laws.specs.Numbers.{within, dig}
-use Rattle.codec.specs.Promise.{BetweenPromise, SamePromise, DigitsAtPromise, PutPromise}
+use Rattle.codec.specs.Promise.{BetweenPromise, SamePromise, DigitsAtPromise, putSays, saidPut, PutPromise}
 use Rattle.codec.specs.Codec.{no}
 use Rattle.burst.specs.Strip.{stripped}
 use Rattle.burst.specs.Vote.{votedLength, clashAt, tooLong, voteSays}
-use Rattle.burst.specs.Promise.{LeadingPromise, StripPromise, VotePromise, said as saidVote}
+use Rattle.burst.specs.Promise.{LeadingPromise, StripPromise, VotePromise, saidVoted}
 use Rattle.header.specs.Header.{Alert, isOrigin, isEvent, isIssue, isSender, isDuration, start, origin, event, sender, header, textOf}
 use Rattle.header.specs.Reading.{readSays, ReadStops, TableStops}
 use Rattle.header.specs.Writing.{writeSays}
-use Rattle.header.specs.Answers.{said as saidRead, saidWrote, noFields}
-use Rattle.header.specs.Promise.{ReadPromise, WritePromise, IsIssuePromise, IsDurationPromise, IsOriginPromise, IsEventPromise, IsSenderPromise, IsWrittenPromise}
+use Rattle.header.specs.Answers.{saidRead, saidWrote, noFields}
+use Rattle.header.specs.Promise.{ReadPromise, WritePromise, IsIssuePromise, IsDurationPromise, IsOriginPromise, IsEventPromise, IsSenderPromise}
+use Rattle.header.specs.Promise.{IsDurationOfPromise}
 use Rattle.header.specs.declared.Fields.{Fields}
 use Rattle.header_fields.specs.Promise.{StandsPromise, PlaceAtPromise, MinutesAtPromise, IssueAtPromise}
-use Rattle.header.specs.declared.Answer.{Answer as Read}
-use Rattle.event.specs.Promise.{ListedPromise, ClassPromise, KindPromise}
+use Rattle.header.specs.declared.ReadAnswer.{ReadAnswer}
+use Rattle.event.specs.Promise.{ListedPromise, ClassPromise, ListedClassPromise}
 use Rattle.place.specs.FirstWord.{badPlace}
-use Rattle.place.specs.Promise.{MatchesPromise, MatchesSomePromise, FirstWordPromise, PlaceOfPromise, BadPlacePromise, PackPromise, PackPlacesPromise, PackedMatchSomePromise}
+use Rattle.place.specs.Promise.{MatchesPromise, MatchesSomePromise, FirstWordPromise, PlaceOfPromise, BadPlacePromise, PackPromise, PackPlacesPromise}
+use Rattle.place.specs.Promise.{PackedMatchSomePromise}
 use Rattle.clock.specs.Clock.{hasDay, isClock}
 use Rattle.clock.specs.Calendar.{dateOf}
 use Rattle.clock.specs.Lifetime.{yearOf, lifetimeOf, timesOf}
 use Rattle.clock.specs.Answers.{clockSays, dateSays, asked, lifetimeSays, timesSays}
 use Rattle.clock.specs.Promise.{CheckPromise, DatePromise, LifetimePromise, TimesPromise}
 use Rattle.clock.specs.declared.Clock.{Clock}
-use Rattle.book_rules.specs.Form.{plain, badClient, badWish}
+use Rattle.book_rules.specs.Form.{form, badClient, badWish}
 use Rattle.book_rules.specs.Rules.{good, recs, empty}
 use Rattle.book_rules.specs.Edits.{stands, full, addSays, removeSays}
 use Rattle.book_rules.specs.Load.{loadSays, addAll, items}
 use Rattle.book_rules.specs.Afresh.{subs}
-use Rattle.book_edits.specs.Answer.{said as saidEdit}
+use Rattle.book_edits.specs.Answer.{saidEdited}
 use Rattle.book_records.specs.Promise.{BadClientPromise, BadWishPromise, ClientOfPromise, WishOfPromise, MarkOrNonePromise, RankOfPromise, RankOrNonePromise}
 use Rattle.book_check.specs.Promise.{IsGoodPromise}
 use Rattle.book_shifts.specs.Promise.{OpenPromise, ClosePromise}
 use Rattle.sorting.specs.Promise.{SortPromise}
-use Rattle.book_edits.specs.Promise.{AddPromise, RemovePromise, AddEachPromise}
-use Rattle.book_loads.specs.Promise.{LoadPromise}
+use Rattle.book_edits.specs.Promise.{AddPromise, RemovePromise, LoadPromise}
 use Rattle.report.specs.Hits.{hitsOf}
 use Rattle.report.specs.Report.{summaryOf, reportSays}
 use Rattle.report.specs.Promise.{ReportPromise}
-use Rattle.report.specs.declared.Answer.{Answer as Reported}
-use Rattle.report.specs.declared.Verdict.{Verdict}
-use Rattle.report.specs.declared.Verdict.the-variants.{Granted, Refused, RefusedAt}
+use Rattle.report.specs.Answers.{saidReport}
 use Rattle.input_lines.specs.Promise.{NowLinePromise, ClientLinePromise, HeaderLinePromise, SubLinePromise}
 use Rattle.clock.specs.declared.Times.{Times}
-use Rattle.page_lines.specs.Promise.{SizePromise, PartsPromise}
+use Rattle.clock.specs.declared.Stamp.{Stamp}
+use Rattle.page_lines.specs.Lines.{numberLine, textLine, stampLine, hitsText}
+use Rattle.page_lines.specs.Promise.{SizePromise}
 use Rattle.page_printing.specs.Page.{pageText, refusedText}
 use Rattle.page_printing.specs.Promise.{printSays, PrintPromise, saidPrinted}
 use Rattle.page.specs.Promise.{PagePromise}
@@ -62,6 +63,7 @@ use Rattle.book_edits.specs.declared.Edited.{Edited}
 use Rattle.page_printing.specs.declared.Printed.{Printed}
 use Rattle.c_answers.specs.Promise.{CapPromise, AnswerPromise, VotedPromise, EditedPromise, PrintedPromise, WrotePromise, YesPromise}
 use Rattle.demands.specs.Forms.{LeavesNoChoice, LeavesNoChoiceOf, RefusalWritesNothing, GoesBy, numbered}
+use Rattle.demands.specs.Program.{ProgramNumbers}
 use Rattle.demands.specs.Outside.{OutsideCall, OutsideRefusal, OutsideNumber}
 
 -- ---- "Every public call": the table of all of them. Its promise leaves no choice: for each input, refusals too, the answer and the final
@@ -81,7 +83,7 @@ pub record EveryCall : Type 0 where
   pub is-origin : (b : List ℕ) → LeavesNoChoice (IsOriginPromise b)
   pub is-event : (b : List ℕ) → LeavesNoChoice (IsEventPromise b)
   pub is-sender : (b : List ℕ) → LeavesNoChoice (IsSenderPromise b)
-  pub is-written : (hours minutes : ℕ) → LeavesNoChoice (IsWrittenPromise hours minutes)
+  pub is-duration-of : (hours minutes : ℕ) → LeavesNoChoice (IsDurationOfPromise hours minutes)
   pub start-at : (text : List ℕ) (at : ℕ) → LeavesNoChoice (StandsPromise start text at)
   pub origin-at : (text : List ℕ) (at : ℕ) → LeavesNoChoice (StandsPromise origin text at)
   pub event-at : (text : List ℕ) (at : ℕ) → LeavesNoChoice (StandsPromise event text at)
@@ -92,7 +94,7 @@ pub record EveryCall : Type 0 where
   -- events
   pub is-listed : (a b c : ℕ) → LeavesNoChoice (ListedPromise a b c)
   pub class-of : (a b c : ℕ) → LeavesNoChoice (ClassPromise a b c)
-  pub kind-of : (a b c : ℕ) → LeavesNoChoice (KindPromise a b c)
+  pub listed-class : (a b c : ℕ) → LeavesNoChoice (ListedClassPromise a b c)
   -- places
   pub matches : (watched sent : ℕ) → LeavesNoChoice (MatchesPromise watched sent)
   pub matches-some : (watched : ℕ) (sent : List ℕ) → LeavesNoChoice (MatchesSomePromise watched sent)
@@ -120,8 +122,8 @@ pub record EveryCall : Type 0 where
   pub is-good : (book : List ℕ) → LeavesNoChoice (IsGoodPromise book)
   pub add : (book : List ℕ) (place client wish : ℕ) → LeavesNoChoiceOf (AddPromise book place client wish)
   pub remove : (book : List ℕ) (place client : ℕ) → LeavesNoChoiceOf (RemovePromise book place client)
-  pub add-each : (book list : List ℕ) → LeavesNoChoiceOf (AddEachPromise book list)
   pub sort : (numbers : List ℕ) → LeavesNoChoice (SortPromise numbers)
+  -- load, and load_each, which adds the items as they come
   pub load : (book list : List ℕ) → LeavesNoChoiceOf (LoadPromise book list)
   -- reports
   pub report : (book : List ℕ) (client : ℕ) (text : List ℕ) (at : Clock) (out : List ℕ) → LeavesNoChoiceOf (ReportPromise book client text at out)
@@ -131,8 +133,10 @@ pub record EveryCall : Type 0 where
   pub header-line : (input : List ℕ) (at : ℕ) → LeavesNoChoice (HeaderLinePromise input at)
   pub sub-line : (input : List ℕ) (at : ℕ) → LeavesNoChoice (SubLinePromise input at)
   pub size-of : (n : ℕ) → LeavesNoChoice (SizePromise n)
-  -- put_number, put_text, put_stamp, put_hits: each puts some parts of a page's lines
-  pub put-parts : (out : List ℕ) (at : ℕ) (parts : List (List ℕ)) → LeavesNoChoiceOf (λ r left. PartsPromise out at parts left r)
+  pub put-number : (out : List ℕ) (at : ℕ) (word : List ℕ) (n w : ℕ) → LeavesNoChoiceOf (PutPromise out at (numberLine word w n))
+  pub put-text : (out : List ℕ) (at : ℕ) (word text : List ℕ) → LeavesNoChoiceOf (PutPromise out at (textLine word text))
+  pub put-stamp : (out : List ℕ) (at : ℕ) (word : List ℕ) (s : Stamp) → LeavesNoChoiceOf (PutPromise out at (stampLine word s))
+  pub put-hits : (out : List ℕ) (at : ℕ) (hits : List ℕ) → LeavesNoChoiceOf (PutPromise out at (hitsText hits))
   pub print-refusal : (number : ℕ) (out : List ℕ) → LeavesNoChoiceOf (PrintPromise (refusedText number) out)
   pub print-page : (client : ℕ) (times : Times) (event : List ℕ) (listed : Bool) (class : ℕ) (hits out : List ℕ)
       → LeavesNoChoiceOf (PrintPromise (pageText client times event listed class hits) out)
@@ -141,13 +145,13 @@ pub record EveryCall : Type 0 where
   pub between : (lo hi b : ℕ) → LeavesNoChoice (BetweenPromise lo hi b)
   pub same : (a b : List ℕ) → LeavesNoChoice (SamePromise a b)
   pub digits-at : (text : List ℕ) (at width : ℕ) → LeavesNoChoice (DigitsAtPromise text at width)
-  pub put-byte : (out : List ℕ) (at b : ℕ) → LeavesNoChoiceOf (λ r left. PutPromise out at (b ∷ []) left r)
-  pub put-bytes : (out : List ℕ) (at : ℕ) (src : List ℕ) → LeavesNoChoiceOf (λ r left. PutPromise out at src left r)
+  pub put-byte : (out : List ℕ) (at b : ℕ) → LeavesNoChoiceOf (PutPromise out at (b ∷ []))
+  pub put-bytes : (out : List ℕ) (at : ℕ) (src : List ℕ) → LeavesNoChoiceOf (PutPromise out at src)
   -- put_digits, and put_count for a wider number
-  pub put-digits : (out : List ℕ) (at n width : ℕ) → LeavesNoChoiceOf (λ r left. PutPromise out at (dig width n) left r)
+  pub put-digits : (out : List ℕ) (at n width : ℕ) → LeavesNoChoiceOf (PutPromise out at (dig width n))
   -- answers as one number
   pub cap : (v : ℕ) → LeavesNoChoice (CapPromise v)
-  pub answer : (number beside : ℕ) → LeavesNoChoice (AnswerPromise number beside)
+  pub answer : (number sizeOrIndex : ℕ) → LeavesNoChoice (AnswerPromise number sizeOrIndex)
   pub voted : (v : Voted) → LeavesNoChoice (VotedPromise v)
   pub edited : (e : Edited) → LeavesNoChoice (EditedPromise e)
   pub printed : (p : Printed) → LeavesNoChoice (PrintedPromise p)
@@ -158,35 +162,37 @@ pub record EveryCall : Type 0 where
 
 -- ---- "and a refusal writes nothing": the table of all calls that are lent space
 
--- what a report's answer says, apart from its summary
-abbrev pub verdictSays : Verdict → Said (Unit {0})
-verdictSays Granted = granted tt
-verdictSays (Refused n) = refused n
-verdictSays (RefusedAt n i) = refusedAt n i
-
-abbrev pub saidReport : Reported → Said (Unit {0})
-saidReport r = verdictSays (r .verdict)
-
 pub record EveryRefusal : Type 0 where
-  pub vote : (a b c out : List ℕ) → RefusalWritesNothing saidVote out (VotePromise a b c out)
+  pub vote : (a b c out : List ℕ) → RefusalWritesNothing saidVoted out (VotePromise a b c out)
   pub write : (f : Fields) (out : List ℕ) → RefusalWritesNothing saidWrote out (λ r left. WritePromise f out left r)
-  pub add : (book : List ℕ) (place client wish : ℕ) → RefusalWritesNothing saidEdit book (AddPromise book place client wish)
-  pub remove : (book : List ℕ) (place client : ℕ) → RefusalWritesNothing saidEdit book (RemovePromise book place client)
-  pub load : (book list : List ℕ) → RefusalWritesNothing saidEdit book (LoadPromise book list)
-  pub report : (book : List ℕ) (client : ℕ) (text : List ℕ) (at : Clock) (out : List ℕ) → RefusalWritesNothing saidReport out (ReportPromise book client text at out)
+  pub add : (book : List ℕ) (place client wish : ℕ) → RefusalWritesNothing saidEdited book (AddPromise book place client wish)
+  pub remove : (book : List ℕ) (place client : ℕ) → RefusalWritesNothing saidEdited book (RemovePromise book place client)
+  -- load and load_each
+  pub load : (book list : List ℕ) → RefusalWritesNothing saidEdited book (LoadPromise book list)
+  pub report : (book : List ℕ) (client : ℕ) (text : List ℕ) (at : Clock) (out : List ℕ)
+      → RefusalWritesNothing saidReport out (ReportPromise book client text at out)
   pub print-refusal : (number : ℕ) (out : List ℕ) → RefusalWritesNothing saidPrinted out (PrintPromise (refusedText number) out)
   pub print-page : (client : ℕ) (times : Times) (event : List ℕ) (listed : Bool) (class : ℕ) (hits out : List ℕ)
       → RefusalWritesNothing saidPrinted out (PrintPromise (pageText client times event listed class hits) out)
   pub page : (input out : List ℕ) → RefusalWritesNothing saidPrinted out (PagePromise input out)
-  -- put_byte, put_bytes, put_digits: bytes that do not fit are not written
-  pub put : (out : List ℕ) (at : ℕ) (bytes left : List ℕ) (r : ℕ) → PutPromise out at bytes left r → length out < at + length bytes → left ≡ out
+  -- the lines of a page
+  pub put-number : (out : List ℕ) (at : ℕ) (word : List ℕ) (n w : ℕ) → RefusalWritesNothing saidPut out (PutPromise out at (numberLine word w n))
+  pub put-text : (out : List ℕ) (at : ℕ) (word text : List ℕ) → RefusalWritesNothing saidPut out (PutPromise out at (textLine word text))
+  pub put-stamp : (out : List ℕ) (at : ℕ) (word : List ℕ) (s : Stamp) → RefusalWritesNothing saidPut out (PutPromise out at (stampLine word s))
+  pub put-hits : (out : List ℕ) (at : ℕ) (hits : List ℕ) → RefusalWritesNothing saidPut out (PutPromise out at (hitsText hits))
+  -- bytes and digits
+  pub put-byte : (out : List ℕ) (at b : ℕ) → RefusalWritesNothing saidPut out (PutPromise out at (b ∷ []))
+  pub put-bytes : (out : List ℕ) (at : ℕ) (src : List ℕ) → RefusalWritesNothing saidPut out (PutPromise out at src)
+  -- put_digits and put_count
+  pub put-digits : (out : List ℕ) (at n width : ℕ) → RefusalWritesNothing saidPut out (PutPromise out at (dig width n))
   -- `read` is lent nothing; what it hands back of a refused text is zeros
-  pub read : (text : List ℕ) (r : Read) → ReadPromise text r → isRefusal (saidRead r) ≡ true → r .fields ≡ noFields
+  pub read : (text : List ℕ) (r : ReadAnswer) → ReadPromise text r → isRefusal (saidRead r) ≡ true → r .fields ≡ noFields
   -- the calls from outside that are lent space
   pub outside : OutsideRefusal
 
 -- ---- "Bad bursts, texts, clocks, books and edits are refused by the listed number": each call's numbers in its order, with the
--- condition of each
+-- condition of each. The rows are spelled out here on purpose, and not cited: this is where a reader compares them with the paper's
+-- orders, and a row that is moved in a crate below no longer goes by them
 
 pub record EveryNumber : Type 0 where
   -- vote 1, 2, 4, 13, 3
@@ -208,11 +214,10 @@ pub record EveryNumber : Type 0 where
   pub read-from : (text : List ℕ) (n i : ℕ) → ReadStops text n i → readSays text ≡ refusedAt n i
   pub table-says : (text : List ℕ) (n i : ℕ) → header .get text 0 ≡ no n i → TableStops text n i
   pub table-from : (text : List ℕ) (n i : ℕ) → TableStops text n i → header .get text 0 ≡ no n i
-  -- write 6 to 11 (the start is no field that is handed over, so 5 never holds), then 13
+  -- write 6 to 11, then 13
   pub write : (a : Alert) (room : ℕ) → GoesBy
       (
-      refused 5 when false
-      ∷ refused 6 when not (eqb (length (a .origin)) 3 && isOrigin (a .origin))
+      refused 6 when not (eqb (length (a .origin)) 3 && isOrigin (a .origin))
       ∷ refused 7 when not (eqb (length (a .event)) 3 && isEvent (a .event))
       ∷ refused 8 when not (within 1 31 (length (a .places)) && every (λ p. ltb p 1000000) (a .places))
       ∷ refused 9 when not (isDuration (a .minutes))
@@ -234,36 +239,38 @@ pub record EveryNumber : Type 0 where
       ∷ []
       )
       (granted tt) (asked at day hour minute duration)
-  pub lifetime : (at : Clock) (day hour minute duration : ℕ) → lifetimeSays at day hour minute duration ≡ next (asked at day hour minute duration) (λ u. granted (lifetimeOf at day hour minute duration))
-  pub times-of : (at : Clock) (day hour minute duration : ℕ) → timesSays at day hour minute duration ≡ next (asked at day hour minute duration) (λ u. granted (timesOf at day hour minute duration))
+  pub lifetime : (at : Clock) (day hour minute duration : ℕ)
+      → lifetimeSays at day hour minute duration ≡ next (asked at day hour minute duration) (λ u. granted (lifetimeOf at day hour minute duration))
+  pub times-of : (at : Clock) (day hour minute duration : ℕ)
+      → timesSays at day hour minute duration ≡ next (asked at day hour minute duration) (λ u. granted (timesOf at day hour minute duration))
   -- add 16, 17, 18, 19, 20, 22
   pub add : (book : List ℕ) (place client wish : ℕ) → GoesBy
       (
-      refused 16 when not (good plain book)
+      refused 16 when not (good form book)
       ∷ refused 17 when badClient client
       ∷ refused 18 when badPlace place
       ∷ refused 19 when badWish wish
-      ∷ refused 20 when stands plain place client (recs book)
+      ∷ refused 20 when stands form place client (recs book)
       ∷ refused 22 when full (recs book)
       ∷ []
       )
-      (granted tt) (addSays plain book place client wish)
+      (granted tt) (addSays form book place client wish)
   -- remove 16, 17, 18, 21
   pub remove : (book : List ℕ) (place client : ℕ) → GoesBy
       (
-      refused 16 when not (good plain book)
+      refused 16 when not (good form book)
       ∷ refused 17 when badClient client
       ∷ refused 18 when badPlace place
-      ∷ refused 21 when not (stands plain place client (recs book))
+      ∷ refused 21 when not (stands form place client (recs book))
       ∷ []
       )
-      (granted tt) (removeSays plain book place client)
+      (granted tt) (removeSays form book place client)
   -- load 16, then each item's
-  pub load : (book list : List ℕ) → GoesBy (refused 16 when not (good plain book) ∷ []) (addAll plain empty (items list)) (loadSays plain book list)
+  pub load : (book list : List ℕ) → GoesBy (refused 16 when not (good form book) ∷ []) (addAll form empty (items list)) (loadSays form book list)
   -- report 16, 17, the header's, 15, 14, 13
   pub report : (book : List ℕ) (client : ℕ) (text : List ℕ) (at : Clock) (room : ℕ) → GoesBy
       (
-      refused 16 when not (good plain book)
+      refused 16 when not (good form book)
       ∷ refused 17 when badClient client
       ∷ []
       )
@@ -272,13 +279,15 @@ pub record EveryNumber : Type 0 where
       (
       refused 15 when not (isClock at)
       ∷ refused 14 when not (hasDay (yearOf at (a .day) (a .hour) (a .minute)) (a .day))
-      ∷ refused 13 when ltb room (2 * length (hitsOf client a (subs plain book)))
+      ∷ refused 13 when ltb room (2 * length (hitsOf client a (subs form book)))
       ∷ []
       )
-      (granted (record { summary = summaryOf at a (hitsOf client a (subs plain book)); hits = hitsOf client a (subs plain book) }))))
+      (granted (record { summary = summaryOf at a (hitsOf client a (subs form book)); hits = hitsOf client a (subs form book) }))))
       (reportSays book client text at room)
   -- what the program prints: 13
   pub print : (text : List ℕ) (room : ℕ) → GoesBy (refused 13 when ltb room (length text) ∷ []) (granted (length text)) (printSays text room)
+  -- what is put at an index, bytes or lines: 13
+  pub put : (bytes : List ℕ) (at room : ℕ) → GoesBy (refused 13 when ltb room (at + length bytes) ∷ []) (granted tt) (putSays bytes at room)
 
 -- and whatever is refused has a number of the paper's list
 pub record EveryNumbered : Type 0 where
@@ -289,16 +298,19 @@ pub record EveryNumbered : Type 0 where
   pub date-of : (year day : ℕ) → numbered (dateSays year day) ≡ true
   pub lifetime : (at : Clock) (day hour minute duration : ℕ) → numbered (lifetimeSays at day hour minute duration) ≡ true
   pub times-of : (at : Clock) (day hour minute duration : ℕ) → numbered (timesSays at day hour minute duration) ≡ true
-  pub add : (book : List ℕ) (place client wish : ℕ) → numbered (addSays plain book place client wish) ≡ true
-  pub remove : (book : List ℕ) (place client : ℕ) → numbered (removeSays plain book place client) ≡ true
-  pub load : (book list : List ℕ) → numbered (loadSays plain book list) ≡ true
+  pub add : (book : List ℕ) (place client wish : ℕ) → numbered (addSays form book place client wish) ≡ true
+  pub remove : (book : List ℕ) (place client : ℕ) → numbered (removeSays form book place client) ≡ true
+  pub load : (book list : List ℕ) → numbered (loadSays form book list) ≡ true
   pub report : (book : List ℕ) (client : ℕ) (text : List ℕ) (at : Clock) (room : ℕ) → numbered (reportSays book client text at room) ≡ true
   pub print : (text : List ℕ) (room : ℕ) → numbered (printSays text room) ≡ true
+  pub put : (bytes : List ℕ) (at room : ℕ) → numbered (putSays bytes at room) ≡ true
 
 pub record Demand1 : Type 0 where
   pub every-call : EveryCall
   pub every-refusal : EveryRefusal
   pub every-number : EveryNumber
   pub every-numbered : EveryNumbered
+  -- the program's, over whole inputs
+  pub program-numbers : ProgramNumbers
   -- and the calls from outside say it in the low half of their answer
   pub outside-number : OutsideNumber

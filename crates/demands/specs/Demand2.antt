@@ -14,16 +14,16 @@ use Rattle.laws.specs.Text.{ascii, oneOf}
 use Rattle.laws.specs.Space.{pasted}
 use Rattle.codec.specs.Codec.{got}
 use Rattle.burst.specs.Strip.{stripped}
-use Rattle.burst.specs.Vote.{votedLength, text as votedText}
+use Rattle.burst.specs.Vote.{votedLength, votedText}
 use Rattle.burst.specs.Sent.{OfBytes, Sent}
-use Rattle.burst.specs.Promise.{VotePromise, said as saidVote}
+use Rattle.burst.specs.Promise.{VotePromise, saidVoted}
 use Rattle.burst.specs.declared.Voted.{Voted}
 use Rattle.header.specs.Header.{Alert, isOrigin, isEvent, isIssue, isDuration, isSender, header, partsOf, textOf, WellFormed}
 use Rattle.header.specs.Reading.{readSays}
-use Rattle.header.specs.Answers.{said as saidRead, saidWrote, alertIn, fieldsOf}
+use Rattle.header.specs.Answers.{saidRead, saidWrote, alertIn, fieldsOf}
 use Rattle.header.specs.Promise.{ReadPromise, WritePromise}
 use Rattle.header.specs.declared.Fields.{Fields}
-use Rattle.header.specs.declared.Answer.{Answer as Read}
+use Rattle.header.specs.declared.ReadAnswer.{ReadAnswer}
 use Rattle.header.specs.declared.Wrote.{Wrote}
 use Rattle.event.specs.Events.{events, noDouble, isListed}
 use Rattle.event.specs.Class.{classOf}
@@ -33,10 +33,10 @@ use Rattle.clock.specs.Clock.{hasDay}
 use Rattle.clock.specs.Calendar.{monthsOf, dated, split, dateOf}
 use Rattle.clock.specs.Lifetime.{stampOf, momentOf, issueOf, untilOf, lifetimeOf, timesOf}
 use Rattle.clock.specs.Meaning.{Exists, Holds}
-use Rattle.clock.specs.Steps.{Fit}
+use Rattle.clock.specs.Answers.{asked}
 use Rattle.clock.specs.declared.Clock.{Clock}
-use Rattle.clock.specs.declared.State.{State}
-use Rattle.book_rules.specs.Load.{Sub}
+use Rattle.clock.specs.declared.Phase.{Phase}
+use Rattle.book_rules.specs.Subscription.{Sub}
 use Rattle.report.specs.Hits.{hasClass, matching}
 use Rattle.demands.specs.Forms.{GoesBy}
 
@@ -52,10 +52,10 @@ pub record Allowed (a : Alert) : Type 0 where
   pub sender : (length (a .sender) ≡ 8) × (isSender (a .sender) ≡ true)
 
 -- the places, each followed by `-`, the last by `+`
-abbrev pub placesText : List ℕ → List ℕ
-placesText [] = []
-placesText (p ∷ []) = dig 6 p ++ ascii "+"
-placesText (p ∷ (q ∷ ps)) = dig 6 p ++ (ascii "-" ++ placesText (q ∷ ps))
+abbrev pub spelledPlaces : List ℕ → List ℕ
+spelledPlaces [] = []
+spelledPlaces (p ∷ []) = dig 6 p ++ ascii "+"
+spelledPlaces (p ∷ (q ∷ ps)) = dig 6 p ++ (ascii "-" ++ spelledPlaces (q ∷ ps))
 
 -- a text, spelled out
 abbrev pub wholeText : Alert → List ℕ
@@ -63,7 +63,7 @@ wholeText a =
     (ascii "ZCZC-"
     ++ ((a .origin ++ ascii "-")
     ++ ((a .event ++ ascii "-")
-    ++ (placesText (a .places)
+    ++ (spelledPlaces (a .places)
     ++ (((dig 2 (a .minutes / 60) ++ dig 2 (a .minutes % 60)) ++ ascii "-")
     ++ ((dig 3 (a .day) ++ (dig 2 (a .hour) ++ dig 2 (a .minute))) ++ ascii "-"))))))
     ++ (a .sender ++ ascii "-")
@@ -81,12 +81,15 @@ pub record ReadingAndWriting : Type 0 where
   pub text-length : (a : Alert) → WellFormed a → (length (textOf a) ≡ 35 + 7 * length (a .places)) × (1 ≤ length (a .places)) × (length (a .places) ≤ 31)
   -- "Written fields read back the same": whatever `write` granted, `read` reads to those fields. Entries past the count, which no text
   -- carries, come back as zeros
-  pub write-read : (f : Fields) (out left : List ℕ) (w : Wrote) (n : ℕ) (r : Read) → WritePromise f out left w → saidWrote w ≡ granted n → ReadPromise (take n left) r
+  pub write-read : (f : Fields) (out left : List ℕ) (w : Wrote) (n : ℕ) (r : ReadAnswer) → WritePromise f out left w → saidWrote w ≡ granted n
+      → ReadPromise (take n left) r
       → (saidRead r ≡ granted (alertIn f)) × (r .fields ≡ fieldsOf (alertIn f))
-  pub write-read-same : (f : Fields) (out left : List ℕ) (w : Wrote) (n : ℕ) (r : Read) → WritePromise f out left w → saidWrote w ≡ granted n → ReadPromise (take n left) r
+  pub write-read-same : (f : Fields) (out left : List ℕ) (w : Wrote) (n : ℕ) (r : ReadAnswer) → WritePromise f out left w → saidWrote w ≡ granted n
+      → ReadPromise (take n left) r
       → f .count ≤ 31 → drop (f .count) (f .places) ≡ replicate (31 - f .count) 0 → length (f .places) ≡ 31 → r .fields ≡ f
   -- "a text that was read writes back the same", where there is room
-  pub read-write : (text : List ℕ) (r : Read) (a : Alert) (out left : List ℕ) (w : Wrote) → ReadPromise text r → saidRead r ≡ granted a → WritePromise (r .fields) out left w
+  pub read-write : (text : List ℕ) (r : ReadAnswer) (a : Alert) (out left : List ℕ) (w : Wrote) → ReadPromise text r → saidRead r ≡ granted a
+      → WritePromise (r .fields) out left w
       → length text ≤ length out → (saidWrote w ≡ granted (length text)) × (left ≡ pasted out 0 text)
 
 -- ---- ".. event classes .."
@@ -129,16 +132,23 @@ pub record Matching : Type 0 where
 
 pub record Lifetimes : Type 0 where
   -- early: issue is later than now + 5; expired: now is at or past issue + duration; otherwise live. The state's condition holds, and no other's
-  pub state-holds : (at : Clock) (day hour minute duration : ℕ) → Holds (momentOf (issueOf at day hour minute)) duration (momentOf at) (lifetimeOf at day hour minute duration)
-  pub one-state : (issue duration at : ℕ) (s t : State) → Holds issue duration at s → Holds issue duration at t → s ≡ t
-  -- the end is the issue plus the duration as a moment, also over New Year; both are times that there are, and a moment is that of one time only
-  pub until-moment : (at : Clock) (day hour minute duration : ℕ) → momentOf (untilOf at day hour minute duration) ≡ momentOf (issueOf at day hour minute) + duration
-  pub issue-exists : (at : Clock) (day hour minute duration : ℕ) → Fit at day hour minute duration → Exists (issueOf at day hour minute)
-  pub until-exists : (at : Clock) (day hour minute duration : ℕ) → Fit at day hour minute duration → Exists (untilOf at day hour minute duration)
+  pub phase-holds : (at : Clock) (day hour minute duration : ℕ)
+      → Holds (momentOf (issueOf at day hour minute)) duration (momentOf at) (lifetimeOf at day hour minute duration)
+  pub one-phase : (issue duration at : ℕ) (s t : Phase) → Holds issue duration at s → Holds issue duration at t → s ≡ t
+  -- the end is the issue plus the duration as a moment, also over New Year; both are times that there are, where nothing is refused; and a
+  -- moment is that of one time only
+  pub until-moment : (at : Clock) (day hour minute duration : ℕ)
+      → momentOf (untilOf at day hour minute duration) ≡ momentOf (issueOf at day hour minute) + duration
+  pub issue-exists : (at : Clock) (day hour minute duration : ℕ) → asked at day hour minute duration ≡ granted tt → Exists (issueOf at day hour minute)
+  pub until-exists : (at : Clock) (day hour minute duration : ℕ) → asked at day hour minute duration ≡ granted tt → Exists (untilOf at day hour minute duration)
   pub one-time : (t u : Clock) → Exists t → Exists u → momentOf t ≡ momentOf u → t ≡ u
   -- what is told of a header at a clock: date and time of both, and the state
   pub told : (at : Clock) (day hour minute duration : ℕ) → timesOf at day hour minute duration
-      ≡ record { issued = stampOf (issueOf at day hour minute); until = stampOf (untilOf at day hour minute duration); state = lifetimeOf at day hour minute duration }
+      ≡ record {
+        issued = stampOf (issueOf at day hour minute);
+        until = stampOf (untilOf at day hour minute duration);
+        phase = lifetimeOf at day hour minute duration;
+      }
   -- month and day by the months of that year
   pub date : (year day : ℕ) → hasDay year day ≡ true → dateOf year day ≡ split (dated (monthsOf year) 1 (day - 1))
 
@@ -146,11 +156,12 @@ pub record Lifetimes : Type 0 where
 
 pub record Voting : Type 0 where
   -- a granted vote writes the voted text, of the middle length, and no other byte
-  pub writes : (a b c out : List ℕ) (r : Voted) (left : List ℕ) (n : ℕ) → VotePromise a b c out r left → saidVote r ≡ granted n
-      → (n ≡ votedLength (stripped a) (stripped b) (stripped c)) × (take n left ≡ votedText (stripped a) (stripped b) (stripped c) n) × (drop n left ≡ drop n out)
+  pub writes : (a b c out : List ℕ) (r : Voted) (left : List ℕ) (n : ℕ) → VotePromise a b c out r left → saidVoted r ≡ granted n
+      → (n ≡ votedLength (stripped a) (stripped b) (stripped c)) × (take n left ≡ votedText (stripped a) (stripped b) (stripped c) n)
+      × (drop n left ≡ drop n out)
   -- the consequence: a text of 1 to 252 bytes that was sent, with at each bit two bursts that have it right, is what the vote gives
   pub consequence : (h a b c out : List ℕ) (r : Voted) (left : List ℕ) → OfBytes h a b c → Sent h a b c (length out) → VotePromise a b c out r left
-      → (saidVote r ≡ granted (length h)) × (left ≡ pasted out 0 h)
+      → (saidVoted r ≡ granted (length h)) × (left ≡ pasted out 0 h)
 
 pub record Demand2 : Type 0 where
   pub reading-and-writing : ReadingAndWriting

@@ -1,10 +1,16 @@
 pub mod Forms
 pub mod Texts
+pub mod Changes
 pub mod Calls
+pub mod Malformed
+pub mod Program
 pub mod Outside
+pub mod OutsideCalls
+pub mod OutsideDemands
 pub mod Demand1
 pub mod Demand2
 pub mod Demand3
 pub mod Both
 pub mod Impostors
 pub mod Everything
+pub mod Trace

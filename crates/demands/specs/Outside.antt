@@ -7,37 +7,38 @@ use lib.ListN.{length}
 use Rattle.laws.specs.Order.{Said, isRefusal}
 use Rattle.burst.specs.Vote.{voteSays}
 use Rattle.clock.specs.declared.Clock.{Clock}
-use Rattle.book_rules.specs.Form.{plain}
+use Rattle.book_rules.specs.Form.{form}
 use Rattle.book_rules.specs.Edits.{addSays, removeSays}
 use Rattle.book_rules.specs.Load.{loadSays}
 use Rattle.page_printing.specs.Promise.{printSays}
 use Rattle.page.specs.Page.{pageOf}
-use Rattle.c_answers.specs.Answer.{capped, packed, bare, numberIn, besideIn, numberOf, besideOf}
+use Rattle.c_answers.specs.Answer.{capped, inHalves, bare, numberIn, sizeOrIndexIn, numberOf, sizeOrIndexOf}
 use Rattle.c_words.specs.Says.{fieldsSay, howMany, textSays, summarySays, howManyHits}
-use Rattle.c_words.specs.Promise.{ReadPromise, WritePromise, ReportPromise}
+use Rattle.c_words.specs.Promise.{ReadWordsPromise, WriteWordsPromise, ReportWordsPromise}
 use Rattle.same.specs.Says.{stripSays, goodSays}
-use Rattle.same.specs.Promise.{StripPromise, VotePromise, ListedPromise, ClassPromise, MatchesPromise, GoodPromise, AddPromise, RemovePromise, LoadPromise, PagePromise}
+use Rattle.same.specs.Promise.{SameStripPromise, SameVotePromise, SameListedPromise, SameClassPromise, SameMatchesPromise, SameGoodPromise}
+use Rattle.same.specs.Promise.{SameAddPromise, SameRemovePromise, SameLoadPromise, SamePagePromise}
 use Rattle.demands.specs.Forms.{LeavesNoChoice, LeavesNoChoiceOf}
 
 -- ---- "Every public call": the answer and the final content of lent space follow from the promise
 
 pub record OutsideCall : Type 0 where
-  pub strip : (burst : List ℕ) → LeavesNoChoice (StripPromise burst)
-  pub vote : (a b c out : List ℕ) → LeavesNoChoiceOf (VotePromise a b c out)
-  pub read : (text fields : List ℕ) → LeavesNoChoiceOf (ReadPromise text fields)
-  pub write : (fields out : List ℕ) → LeavesNoChoiceOf (WritePromise fields out)
-  pub listed : (a b c : ℕ) → LeavesNoChoice (ListedPromise a b c)
-  pub class : (a b c : ℕ) → LeavesNoChoice (ClassPromise a b c)
-  pub matches : (watched sent : ℕ) → LeavesNoChoice (MatchesPromise watched sent)
-  pub good : (book : List ℕ) → LeavesNoChoice (GoodPromise book)
-  pub add : (book : List ℕ) (place client wish : ℕ) → LeavesNoChoiceOf (AddPromise book place client wish)
-  pub remove : (book : List ℕ) (place client : ℕ) → LeavesNoChoiceOf (RemovePromise book place client)
-  pub load : (book items : List ℕ) → LeavesNoChoiceOf (LoadPromise book items)
+  pub strip : (burst : List ℕ) → LeavesNoChoice (SameStripPromise burst)
+  pub vote : (a b c out : List ℕ) → LeavesNoChoiceOf (SameVotePromise a b c out)
+  pub read : (text fields : List ℕ) → LeavesNoChoiceOf (ReadWordsPromise text fields)
+  pub write : (fields out : List ℕ) → LeavesNoChoiceOf (WriteWordsPromise fields out)
+  pub listed : (a b c : ℕ) → LeavesNoChoice (SameListedPromise a b c)
+  pub class : (a b c : ℕ) → LeavesNoChoice (SameClassPromise a b c)
+  pub matches : (watched sent : ℕ) → LeavesNoChoice (SameMatchesPromise watched sent)
+  pub good : (book : List ℕ) → LeavesNoChoice (SameGoodPromise book)
+  pub add : (book : List ℕ) (place client wish : ℕ) → LeavesNoChoiceOf (SameAddPromise book place client wish)
+  pub remove : (book : List ℕ) (place client : ℕ) → LeavesNoChoiceOf (SameRemovePromise book place client)
+  pub load : (book items : List ℕ) → LeavesNoChoiceOf (SameLoadPromise book items)
   -- lent twice: the summary and the hits
   pub report : (book : List ℕ) (client : ℕ) (text : List ℕ) (at : Clock) (summary hits : List ℕ) (r q : ℕ) (left rest kept held : List ℕ)
-      → ReportPromise book client text at summary hits r left rest → ReportPromise book client text at summary hits q kept held
+      → ReportWordsPromise book client text at summary hits r left rest → ReportWordsPromise book client text at summary hits q kept held
       → (r ≡ q) × (left ≡ kept) × (rest ≡ held)
-  pub page : (input out : List ℕ) → LeavesNoChoiceOf (PagePromise input out)
+  pub page : (input out : List ℕ) → LeavesNoChoiceOf (SamePagePromise input out)
 
 -- ---- "and a refusal writes nothing": a caller sees it by the number in the low half
 
@@ -46,25 +47,25 @@ abbrev pub NumberWritesNothing : List ℕ → (ℕ → List ℕ → Type 0) → 
 NumberWritesNothing lent Promise = (r : ℕ) (left : List ℕ) → Promise r left → 0 < numberIn r → left ≡ lent
 
 pub record OutsideRefusal : Type 0 where
-  pub vote : (a b c out : List ℕ) → NumberWritesNothing out (VotePromise a b c out)
-  pub read : (text fields : List ℕ) → NumberWritesNothing fields (ReadPromise text fields)
-  pub write : (fields out : List ℕ) → NumberWritesNothing out (WritePromise fields out)
-  pub add : (book : List ℕ) (place client wish : ℕ) → NumberWritesNothing book (AddPromise book place client wish)
-  pub remove : (book : List ℕ) (place client : ℕ) → NumberWritesNothing book (RemovePromise book place client)
-  pub load : (book items : List ℕ) → NumberWritesNothing book (LoadPromise book items)
+  pub vote : (a b c out : List ℕ) → NumberWritesNothing out (SameVotePromise a b c out)
+  pub read : (text fields : List ℕ) → NumberWritesNothing fields (ReadWordsPromise text fields)
+  pub write : (fields out : List ℕ) → NumberWritesNothing out (WriteWordsPromise fields out)
+  pub add : (book : List ℕ) (place client wish : ℕ) → NumberWritesNothing book (SameAddPromise book place client wish)
+  pub remove : (book : List ℕ) (place client : ℕ) → NumberWritesNothing book (SameRemovePromise book place client)
+  pub load : (book items : List ℕ) → NumberWritesNothing book (SameLoadPromise book items)
   pub report : (book : List ℕ) (client : ℕ) (text : List ℕ) (at : Clock) (summary hits : List ℕ) (r : ℕ) (left rest : List ℕ)
-      → ReportPromise book client text at summary hits r left rest → 0 < numberIn r → (left ≡ summary) × (rest ≡ hits)
-  pub page : (input out : List ℕ) → NumberWritesNothing out (PagePromise input out)
+      → ReportWordsPromise book client text at summary hits r left rest → 0 < numberIn r → (left ≡ summary) × (rest ≡ hits)
+  pub page : (input out : List ℕ) → NumberWritesNothing out (SamePagePromise input out)
 
 -- ---- "refused by the listed number": the two halves of an answer say what was said
 
 pub record Tells (s : Said ℕ) : Type 0 where
   -- the low half is the number, and 0 exactly where the call is granted
-  pub number : numberIn (packed s) ≡ numberOf s
-  pub zero : numberIn (packed s) ≡ 0 → isRefusal s ≡ false
-  pub granted : isRefusal s ≡ false → numberIn (packed s) ≡ 0
+  pub number : numberIn (inHalves s) ≡ numberOf s
+  pub zero : numberIn (inHalves s) ≡ 0 → isRefusal s ≡ false
+  pub granted : isRefusal s ≡ false → numberIn (inHalves s) ≡ 0
   -- the high half is the length, count or index, as far as a half can hold it
-  pub beside : besideIn (packed s) ≡ capped (besideOf s)
+  pub size-or-index : sizeOrIndexIn (inHalves s) ≡ capped (sizeOrIndexOf s)
 
 pub record OutsideNumber : Type 0 where
   pub strip : (burst : List ℕ) → Tells (stripSays burst)
@@ -72,8 +73,8 @@ pub record OutsideNumber : Type 0 where
   pub read : (text : List ℕ) (words : ℕ) → Tells (howMany (fieldsSay text words))
   pub write : (fields : List ℕ) (room : ℕ) → Tells (textSays fields room)
   pub good : (book : List ℕ) → Tells (goodSays book)
-  pub add : (book : List ℕ) (place client wish : ℕ) → Tells (bare (addSays plain book place client wish))
-  pub remove : (book : List ℕ) (place client : ℕ) → Tells (bare (removeSays plain book place client))
-  pub load : (book items : List ℕ) → Tells (bare (loadSays plain book items))
+  pub add : (book : List ℕ) (place client wish : ℕ) → Tells (bare (addSays form book place client wish))
+  pub remove : (book : List ℕ) (place client : ℕ) → Tells (bare (removeSays form book place client))
+  pub load : (book items : List ℕ) → Tells (bare (loadSays form book items))
   pub report : (book : List ℕ) (client : ℕ) (text : List ℕ) (at : Clock) (words room : ℕ) → Tells (howManyHits (summarySays book client text at words room))
   pub page : (input : List ℕ) (room : ℕ) → Tells (printSays (pageOf input) room)

@@ -1,4 +1,4 @@
--- The list has 61 codes and no double, and every code has one class from 0 to 6. Assumes nothing.
+-- The list has 61 codes and no double, and every code has one class from 0 to 6.
 use mathlib.Core.Path.{_≡_, refl}
 use mathlib.Core.Bool.{Bool, true, false}
 use mathlib.Core.List.{List}

@@ -1,4 +1,4 @@
--- The search in the list of codes, and the class of what it finds. Assumes nothing.
+-- The search in the list of codes, and the class of what it finds.
 use mathlib.Core.Path.{_≡_, refl, sym, ap, _∙_}
 use mathlib.Core.Bool.{Bool, true, false, and-true}
 use mathlib.Core.List.{List, [], _∷_}

@@ -1,5 +1,5 @@
--- Steps of the code: the list as rows of bytes, what the search finds, and three bytes as one number.
-use Prim.Native.Nat.{ℕ, _+_, _*_, _<_}
+-- Steps of the code: the list as rows of bytes, and what the search finds.
+use Prim.Native.Nat.{ℕ, _<_}
 use mathlib.Core.Bool.{Bool, _&&_}
 use mathlib.Core.List.{List, [], map}
 use mathlib.Core.Path.{_≡_}
@@ -20,7 +20,3 @@ spells row a b c = eqb a (getD row 0 0) && (eqb b (getD row 1 0) && eqb c (getD 
 pub record Found (e : List ℕ) (k : ℕ) : Type 0 where
   pub listed : ltb k 61 ≡ isListed e
   pub stands : k < 61 → getD codes k [] ≡ e
-
--- three bytes as one number
-abbrev pub key : ℕ → ℕ → ℕ → ℕ
-key a b c = a * 16777216 + b * 65536 + c * 256

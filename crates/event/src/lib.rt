@@ -1,12 +1,14 @@
 // The list of event codes, and the class of a code.
 ghost use mathlib.Core.Path.{_≡_};
+ghost use mathlib.Core.Bool.{_&&_};
 ghost use Prim.Native.Nat.{_<_};
 ghost use mathlib.Core.List.{[]};
+ghost use lib.Dec.{eqb};
 ghost use lib.ListN.{getD};
 ghost use Rattle.event.specs.Events.{code};
 ghost use Rattle.event.specs.Class.{byThird, classOf};
-ghost use Rattle.event.specs.Promise.{ListedPromise, ClassPromise, KindPromise};
-ghost use Rattle.event.specs.Steps.{codes, spells, Found, key};
+ghost use Rattle.event.specs.Promise.{ListedPromise, ClassPromise, ListedClassPromise};
+ghost use Rattle.event.specs.Steps.{codes, spells, Found};
 
 // The 61 codes, in the paper's order.
 const EVENTS: [[u8; 3]; 61] = [
@@ -74,7 +76,7 @@ const EVENTS: [[u8; 3]; 61] = [
 ];
 
 // The class of each of them.
-const CLASSES: [u32; 61] = [
+const CLASSES: [u8; 61] = [
     1, // BZW
     2, // CFA
     1, // CFW
@@ -139,29 +141,25 @@ const CLASSES: [u32; 61] = [
 ];
 
 // What is known of a code: whether it is listed, and its class.
-pub struct Kind {
+pub struct ListedClass {
     pub listed: bool,
     pub class: u32,
 }
 
 // ---- the search in the list
 
-// The class of code k of the list.
-fn class_at(k: usize) -> u32
-    requires { ⌜ k < 61 ⌝ }
-    ensures { λ r. ⌜ r ≡ classOf (getD codes k []) ⌝ }
+// Whether two letters are two others. Two are one number, so that nearly every row of the list costs one comparison.
+fn same_two(a: u8, b: u8, x: u8, y: u8) -> bool
+    ensures { λ r. ⌜ r ≡ (eqb a x && eqb b y) ⌝ }
 {
-    CLASSES[k]
+    a as u16 + b as u16 * 256 == x as u16 + y as u16 * 256
 }
 
-// Whether a row of the list has these three bytes. The first that differs decides.
+// Whether a row of the list has these three bytes.
 fn is_code(row: [u8; 3], a: u8, b: u8, c: u8) -> bool
     ensures { λ r. ⌜ r ≡ spells row a b c ⌝ }
 {
-    if a != row[0] {
-        return false;
-    }
-    if b != row[1] {
+    if !same_two(a, b, row[0], row[1]) {
         return false;
     }
     c == row[2]
@@ -196,85 +194,57 @@ pub fn is_listed(a: u8, b: u8, c: u8) -> bool
     find(a, b, c) < 61
 }
 
-// ---- the class of one code, with no search
+// ---- the class of what was searched for
 
-// Each as one number, so that one comparison tests three letters: two hexadecimal digits a letter, then two zeros, so that none is
-// the next number after another.
-const TXF: u32 = 0x54584600;
-
-const TXO: u32 = 0x54584F00;
-
-const TXB: u32 = 0x54584200;
-
-const TXP: u32 = 0x54585000;
-
-const TOR: u32 = 0x544F5200;
-
-const SVR: u32 = 0x53565200;
-
-const EVI: u32 = 0x45564900;
-
-const BLU: u32 = 0x424C5500;
-
-const CEM: u32 = 0x43454D00;
-
-const NPT: u32 = 0x4E505400;
-
-const RMT: u32 = 0x524D5400;
-
-const RWT: u32 = 0x52575400;
-
-const DMO: u32 = 0x444D4F00;
-
-// Three bytes as one number.
-fn key_of(a: u8, b: u8, c: u8) -> u32
-    ensures { λ r. ⌜ r ≡ key a b c ⌝ }
+// A byte as a number of more bits. Here no entry of a table has to be shown to fit.
+fn wide(x: u8) -> u32
+    ensures { λ r. ⌜ r ≡ x ⌝ }
 {
-    a as u32 * 16777216 + b as u32 * 65536 + c as u32 * 256
+    x as u32
 }
 
-// The class of a code whose third letter says 6.
-fn named_class(a: u8, b: u8, c: u8) -> u32
-    requires { ⌜ byThird c ≡ 6 ⌝ }
-    ensures { λ r. ⌜ r ≡ classOf (code a b c) ⌝ }
+// The class of code k of the list.
+fn class_at(k: usize) -> u32
+    requires { ⌜ k < 61 ⌝ }
+    ensures { λ r. ⌜ r ≡ classOf (getD codes k []) ⌝ }
 {
-    match key_of(a, b, c) {
-        TXF | TXO | TXB | TXP => 0,
-        TOR | SVR => 1,
-        EVI | BLU | CEM => 3,
-        NPT | RMT | RWT | DMO => 5,
-        _ => 6,
-    }
+    wide(CLASSES[k])
 }
 
-// The class of a code, listed or not. No code that the paper names ends with one of these four letters, so the third is tested first.
-pub fn class_of(a: u8, b: u8, c: u8) -> u32
-    ensures { λ r. ⌜ ClassPromise a b c r ⌝ }
+// The class that a third letter says.
+fn class_by_third(third: u8) -> u32
+    ensures { λ r. ⌜ r ≡ byThird third ⌝ }
 {
-    match c {
+    match third {
         b'W' => 1,
         b'A' => 2,
         b'E' => 3,
         b'S' => 4,
-        _ => named_class(a, b, c),
+        _ => 6,
     }
 }
 
-// ---- both
-
-// Whether a code is listed and which class it has, in one search.
-pub fn kind_of(a: u8, b: u8, c: u8) -> Kind
-    ensures { λ r. ⌜ KindPromise a b c r ⌝ }
+// Whether a code is listed and which class it has, in one search. Only a code that is not listed goes by its third letter.
+pub fn listed_class(a: u8, b: u8, c: u8) -> ListedClass
+    ensures { λ r. ⌜ ListedClassPromise a b c r ⌝ }
 {
     let k = find(a, b, c);
     if k < 61 {
-        return Kind {
+        return ListedClass {
             listed: true,
             class: class_at(k),
         };
     }
-    Kind {
+    ListedClass {
         listed: false,
-        class: class_of(a, b, c),
+        class: class_by_third(c),
     }
+}
+
+// The class of a code, listed or not.
+pub fn class_of(a: u8, b: u8, c: u8) -> u32
+    ensures { λ r. ⌜ ClassPromise a b c r ⌝ }
+{
+    let kind = listed_class(a, b, c);
+    kind.class
 }

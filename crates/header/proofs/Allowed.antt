@@ -1,4 +1,4 @@
--- Which values the table allows, by the tests that code makes. Assumes nothing.
+-- Values that pass the tests of the code have few enough digits, so the table allows exactly those.
 use Prim.Native.Nat.{ℕ, _/_, _%_, _≤_}
 use mathlib.Core.Path.{_≡_, refl, sym, ap, _∙_}
 use mathlib.Core.List.{List}
@@ -10,17 +10,18 @@ use borrow.Author.Tests.{eq-eqb, lt-ltb, leb-true}
 use Rattle.laws.specs.Numbers.{within}
 use Rattle.laws.proofs.Tests.{and-l, and-r, within-lo, within-hi}
 use Rattle.codec.specs.Kind.{bytes, only}
-use Rattle.header.specs.Header.{isWritten, isIssue, issue, isDuration}
+use Rattle.header.specs.Header.{isDurationOf, isIssue, issue, isDuration}
 use Rattle.header.proofs.Round.{hours}
 
 pub bytes-ok : (p : List ℕ → Bool) (w : ℕ) (b : List ℕ) → w ≡ length b → only p (bytes w) .ok b ≡ p b
 bytes-ok p w b l = simp (eq-eqb (length b) w (sym l))
 
-pub duration-ok : (m : ℕ) → isDuration m ≡ isWritten (m / 60, m % 60)
+pub duration-ok : (m : ℕ) → isDuration m ≡ isDurationOf (m / 60, m % 60)
 unfolding isDuration
-duration-ok m = go (isWritten (m / 60, m % 60)) refl
+duration-ok m = go (isDurationOf (m / 60, m % 60)) refl
   where
-    go : (b : Bool) → isWritten (m / 60, m % 60) ≡ b → (ltb (m / 60) 100 && ltb (m % 60) 100) && isWritten (m / 60, m % 60) ≡ isWritten (m / 60, m % 60)
+    go : (b : Bool) → isDurationOf (m / 60, m % 60) ≡ b
+        → (ltb (m / 60) 100 && ltb (m % 60) 100) && isDurationOf (m / 60, m % 60) ≡ isDurationOf (m / 60, m % 60)
     go true e =
         let h : m / 60 ≤ 99 = hours (m / 60) (m % 60) e in
         simp (lt-ltb (m / 60) 100 (omega arith), lt-ltb (m % 60) 100 (omega arith))

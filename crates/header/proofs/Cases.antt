@@ -1,4 +1,4 @@
--- Worked examples, each of reading a whole text; by computation. Assumes nothing.
+-- Worked examples, each of reading a whole text, by computation.
 use Prim.Native.Nat.{ℕ, zero, suc}
 use mathlib.Core.Path.{_≡_, refl, ap, _∙_}
 use mathlib.Core.List.{List, [], _++_}
@@ -12,7 +12,7 @@ use Rattle.header.specs.Reading.{readSays}
 use Rattle.header.specs.Samples.{sample, sampleSays, lasting, lasts}
 use Rattle.header.specs.Answers.{fieldsFor}
 use Rattle.header.specs.Promise.{ReadPromise}
-use Rattle.header.specs.declared.Answer.{Answer}
+use Rattle.header.specs.declared.ReadAnswer.{ReadAnswer}
 use Rattle.header.specs.declared.Fields.{Fields}
 
 -- ---- the sample of the paper
@@ -63,7 +63,7 @@ d0090 = refl
 
 -- ---- no reader answers all texts alike, and none refuses every text
 
-pub two-texts : (r s : Answer) → ReadPromise (lasting "0130") r → ReadPromise (lasting "9930") s → r .fields ≡ s .fields → ⊥
+pub two-texts : (r s : ReadAnswer) → ReadPromise (lasting "0130") r → ReadPromise (lasting "9930") s → r .fields ≡ s .fields → ⊥
 two-texts r s p q e =
     let x : r .fields .duration ≡ 90 = ap (λ (f : Fields). f .duration) (p .fields ∙ ap fieldsFor d0130) in
     let y : s .fields .duration ≡ 5970 = ap (λ (f : Fields). f .duration) (q .fields ∙ ap fieldsFor d9930) in

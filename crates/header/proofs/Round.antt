@@ -1,5 +1,4 @@
--- The table's laws: each field's and the table's own; the length of a text; and that reading and writing are each other's
--- inverse. Assumes nothing.
+-- Each field is lawful, so the table is: reading and writing are each other's inverse, and each field adds its bytes to a text's length.
 use Prim.Native.Nat.{ℕ, _+_, _*_, _/_, _%_, _≤_, _<_}
 use mathlib.Core.Path.{_≡_, refl, sym, ap, _∙_}
 use mathlib.Core.List.{List, [], _∷_, append-nil}
@@ -12,6 +11,7 @@ use Rattle.laws.specs.Order.{granted, refusedAt, choose}
 use Rattle.laws.specs.Lists.{every, some}
 use Rattle.laws.specs.Numbers.{within}
 use Rattle.laws.specs.Text.{ascii}
+use Rattle.laws.proofs.Clash.{clash}
 use Rattle.laws.proofs.Tests.{impossible, and-l, and-r, within-lo, within-hi}
 use Rattle.codec.specs.Kind.{bytes, digits, _⊗_, nothing}
 use Rattle.codec.specs.Codec.{Out, got, no, field, listOf}
@@ -19,7 +19,8 @@ use Rattle.codec.specs.Law.{Law, Lawful, Sized}
 use Rattle.codec.proofs.KindLaws.{nothing-law, bytes-law, digits-law, pair-law, tag-law, kept-law, only-law}
 use Rattle.codec.proofs.CodecLaws.{field-law, then-law, list-law}
 use Rattle.codec.proofs.Sizes.{field-sized, then-sized, list-sized}
-use Rattle.header.specs.Header.{isOrigin, isEvent, isWritten, isMoment, isSender, dash, plus, start, origin, event, place, inMinutes, inHours, duration, issue, sender, Front, front, header, Alert, alertOf, partsOf, textOf, WellFormed}
+use Rattle.header.specs.Header.{isOrigin, isEvent, isDurationOf, isMoment, isSender, dash, plus, start, origin, event, place, inMinutes, inHours}
+use Rattle.header.specs.Header.{duration, issue, sender, Front, front, header, Alert, alertOf, partsOf, textOf, WellFormed}
 use Rattle.header.specs.Reading.{toTheEnd, readSays}
 
 -- ---- hours and minutes of a duration
@@ -38,7 +39,7 @@ among lo hi m (x ∷ l) h e =
     (λ q. among lo hi m l (and-r (within lo hi x) (every (within lo hi) l) h) q)
 
 -- hours 0 and 15 to 45 minutes, or hours 1 to 99 and at most 30 minutes
-pub written : {P : Type 0} (h m : ℕ) → isWritten (h, m) ≡ true → (h ≡ 0 → 15 ≤ m → m ≤ 45 → P) → (1 ≤ h → h ≤ 99 → m ≤ 30 → P) → P
+pub written : {P : Type 0} (h m : ℕ) → isDurationOf (h, m) ≡ true → (h ≡ 0 → 15 ≤ m → m ≤ 45 → P) → (1 ≤ h → h ≤ 99 → m ≤ 30 → P) → P
 written h m e f g =
     or-cases (eqb h 0 && some (eqb m) (15 ∷ 30 ∷ 45 ∷ [])) (within 1 99 h && some (eqb m) (0 ∷ 30 ∷ [])) e
     (λ u.
@@ -49,10 +50,10 @@ written h m e f g =
     let r = among 0 30 m (0 ∷ 30 ∷ []) refl (and-r (within 1 99 h) (some (eqb m) (0 ∷ 30 ∷ [])) u) in
     g (within-lo 1 99 h w) (within-hi 1 99 h w) (r .1))
 
-pub hours : (h m : ℕ) → isWritten (h, m) ≡ true → h ≤ 99
+pub hours : (h m : ℕ) → isDurationOf (h, m) ≡ true → h ≤ 99
 hours h m e = written h m e (λ z a b. omega arith) (λ a b k. b)
 
-pub minutes : (h m : ℕ) → isWritten (h, m) ≡ true → m < 60
+pub minutes : (h m : ℕ) → isDurationOf (h, m) ≡ true → m < 60
 minutes h m e = written h m e (λ z a b. omega arith) (λ a b k. omega arith)
 
 -- ---- the fields
@@ -71,7 +72,7 @@ place-law = digits-law 6
 
 pub duration-law : Law duration
 duration-law =
-    kept-law isWritten inMinutes inHours (digits 2 ⊗ digits 2) (pair-law (digits 2) (digits 2) (digits-law 2) (digits-law 2))
+    kept-law isDurationOf inMinutes inHours (digits 2 ⊗ digits 2) (pair-law (digits 2) (digits 2) (digits-law 2) (digits-law 2))
     (λ d h.
     let lt : d .1 < 60 = minutes (d .0) (d .1) h in
     let e0 : (d .0 * 60 + d .1) / 60 ≡ d .0 = omega arith in
@@ -80,7 +81,9 @@ duration-law =
     (λ m h. omega arith)
 
 pub issue-law : Law issue
-issue-law = only-law isMoment (digits 3 ⊗ (digits 2 ⊗ digits 2)) (pair-law (digits 3) (digits 2 ⊗ digits 2) (digits-law 3) (pair-law (digits 2) (digits 2) (digits-law 2) (digits-law 2)))
+issue-law =
+    only-law isMoment (digits 3 ⊗ (digits 2 ⊗ digits 2))
+    (pair-law (digits 3) (digits 2 ⊗ digits 2) (digits-law 3) (pair-law (digits 2) (digits 2) (digits-law 2) (digits-law 2)))
 
 pub sender-law : Law sender
 sender-law = only-law isSender (bytes 8) (bytes-law 8)
@@ -130,9 +133,10 @@ text-length a f =
 same-parts : (h : Front × List ℕ) → partsOf (alertOf h) ≡ h
 same-parts h = refl
 
-pub to-the-end : (t : List ℕ) (o : Out (Front × List ℕ)) (a : Alert) → header .get t 0 ≡ o → toTheEnd o ≡ granted a → header .get t 0 ≡ got (partsOf a) [] (length t)
-to-the-end t (no n i) a q e = absurd (let z : _≡_ {A = ℕ} 0 1 = cc in omega arith)
-to-the-end t (got h (x ∷ l) i) a q e = absurd (let z : _≡_ {A = ℕ} 0 1 = cc in omega arith)
+pub to-the-end : (t : List ℕ) (o : Out (Front × List ℕ)) (a : Alert) → header .get t 0 ≡ o → toTheEnd o ≡ granted a
+    → header .get t 0 ≡ got (partsOf a) [] (length t)
+to-the-end t (no n i) a q e = clash cc
+to-the-end t (got h (x ∷ l) i) a q e = clash cc
 to-the-end t (got h [] i) a q e =
     let ea : alertOf h ≡ a = cc in
     let r = header-law .reads t 0 h [] i q in
@@ -146,7 +150,7 @@ read-form t a e = go (ltb 252 (length t)) e
   where
     go : (b : Bool) → choose b (refusedAt 4 252) (toTheEnd (header .get t 0)) ≡ granted a
         → WellFormed a × (t ≡ textOf a) × (header .get t 0 ≡ got (partsOf a) [] (length t))
-    go true e = absurd (let z : _≡_ {A = ℕ} 0 1 = cc in omega arith)
+    go true e = clash cc
     go false e =
         let g : header .get t 0 ≡ got (partsOf a) [] (length t) = to-the-end t (header .get t 0) a refl e in
         let r = header-law .reads t 0 (partsOf a) [] (length t) g in

@@ -1,4 +1,4 @@
--- What reading says, by how far it came; and what fields say. Assumes nothing.
+-- How far the table came says what reading says: a field that does not stand, a leftover, or the end of the text.
 use Prim.Native.Nat.{ℕ, _-_, _≤_, _<_}
 use mathlib.Core.Path.{_≡_, refl, sym, ap, _∙_}
 use mathlib.Core.List.{List, [], _∷_, _++_}
@@ -33,7 +33,8 @@ module _ (t : List ℕ) where
   whole h i l g = simp (le-ltb 252 (length t) l, g)
 
   -- with the next index, where code knows whether the text ends there
-  pub beyond : (h : Front × List ℕ) (i : ℕ) → length t ≤ 252 → (length t ≡ i → ⊥) → i ≤ length t → header .get t 0 ≡ got h (drop i t) i → readSays t ≡ refusedAt 12 i
+  pub beyond : (h : Front × List ℕ) (i : ℕ) → length t ≤ 252 → (length t ≡ i → ⊥) → i ≤ length t → header .get t 0 ≡ got h (drop i t) i
+      → readSays t ≡ refusedAt 12 i
   beyond h i l e k g = go (drop i t) refl
     where
       go : (r : List ℕ) → drop i t ≡ r → readSays t ≡ refusedAt 12 i
@@ -53,9 +54,9 @@ module _ (t : List ℕ) where
   unfolding header
   no-front n i h = simp h
 
-  pub at-sender : (h : Front) (j : ℕ) → front .get t 0 ≡ got h (drop j t) j → At t header 0 (field 11 sender dash) j (λ b. (h, b))
+  pub before-sender : (h : Front) (j : ℕ) → front .get t 0 ≡ got h (drop j t) j → At t header 0 (field 11 sender dash) j (λ b. (h, b))
   unfolding header
-  at-sender h j e = next front (field 11 sender dash) (begin t header 0 (omega arith)) front-law h (drop j t) j e
+  before-sender h j e = next front (field 11 sender dash) (begin t header 0 (omega arith)) front-law h (drop j t) j e
 
 -- ---- fields and what they say
 
@@ -73,7 +74,16 @@ kept a =
     let z : List ℕ = replicate (31 - length ps) 0 in
     let e : counted (ps ++ z) (length ps) ≡ ps =
     counted-take (ps ++ z) (length ps) (omega (arith, length-append ps z)) ∙ take-at ps z (length ps) refl in
-    λ q. record { origin = a .origin; event = a .event; places = e q; minutes = a .minutes; day = a .day; hour = a .hour; minute = a .minute; sender = a .sender }
+    λ q. record {
+      origin = a .origin;
+      event = a .event;
+      places = e q;
+      minutes = a .minutes;
+      day = a .day;
+      hour = a .hour;
+      minute = a .minute;
+      sender = a .sender;
+    }
 
 module _ (f : Fields) (low : f .count ≤ 31) (rest : drop (f .count) (f .places) ≡ replicate (31 - f .count) 0) (len : length (f .places) ≡ 31) where
   -- fields with zeros behind their places are the fields of what they say
@@ -84,4 +94,14 @@ module _ (f : Fields) (low : f .count ≤ 31) (rest : drop (f .count) (f .places
       sym (take-append-drop (f .count) (f .places))
       ∙ (λ q. sym (counted-take (f .places) (f .count) (omega arith)) q ++ rest q)
       ∙ ap (λ (m : ℕ). counted (f .places) (f .count) ++ replicate (31 - m) 0) (sym n) in
-      λ q. record { origin = f .origin; event = f .event; places = e q; count = sym n q; duration = f .duration; day = f .day; hour = f .hour; minute = f .minute; sender = f .sender }
+      λ q. record {
+        origin = f .origin;
+        event = f .event;
+        places = e q;
+        count = sym n q;
+        duration = f .duration;
+        day = f .day;
+        hour = f .hour;
+        minute = f .minute;
+        sender = f .sender;
+      }

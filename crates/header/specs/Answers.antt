@@ -5,9 +5,9 @@ use lib.ListN.{length, take, replicate}
 use Rattle.laws.specs.Order.{Said, granted, refused, refusedAt}
 use Rattle.header.specs.Header.{Alert}
 use Rattle.header.specs.declared.Fields.{Fields}
-use Rattle.header.specs.declared.Verdict.{Verdict}
-use Rattle.header.specs.declared.Verdict.the-variants.{Granted, RefusedAt}
-use Rattle.header.specs.declared.Answer.{Answer}
+use Rattle.header.specs.declared.ReadVerdict.{ReadVerdict}
+use Rattle.header.specs.declared.ReadVerdict.the-variants.{Reads, StopsAt}
+use Rattle.header.specs.declared.ReadAnswer.{ReadAnswer}
 use Rattle.header.specs.declared.Wrote.{Wrote}
 use Rattle.header.specs.declared.Wrote.the-variants.{Written, Refused}
 
@@ -63,13 +63,13 @@ fieldsFor (refusedAt n i) = noFields
 
 -- ---- what the answers say
 
-abbrev pub verdictSays : Verdict → Fields → Said Alert
-verdictSays Granted f = granted (alertIn f)
-verdictSays (RefusedAt n i) f = refusedAt n i
+abbrev pub readVerdictSays : ReadVerdict → Fields → Said Alert
+readVerdictSays Reads f = granted (alertIn f)
+readVerdictSays (StopsAt n i) f = refusedAt n i
 
 -- the answer of `read`
-abbrev pub said : Answer → Said Alert
-said r = verdictSays (r .verdict) (r .fields)
+abbrev pub saidRead : ReadAnswer → Said Alert
+saidRead r = readVerdictSays (r .verdict) (r .fields)
 
 -- the answer of `write`
 abbrev pub saidWrote : Wrote → Said ℕ

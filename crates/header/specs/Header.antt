@@ -28,8 +28,8 @@ abbrev pub isEvent : List ℕ → Bool
 isEvent = every (within 65 90)
 
 -- 0015, 0030, 0045, or HH00 and HH30 with HH 01 to 99: the hours and the minutes as they are written
-abbrev pub isWritten : ℕ × ℕ → Bool
-isWritten (hours, minutes) =
+abbrev pub isDurationOf : ℕ × ℕ → Bool
+isDurationOf (hours, minutes) =
     (eqb hours 0 && some (eqb minutes) (15 ∷ 30 ∷ 45 ∷ []))
     || (within 1 99 hours && some (eqb minutes) (0 ∷ 30 ∷ []))
 
@@ -66,7 +66,7 @@ abbrev pub inHours : ℕ → ℕ × ℕ
 inHours m = (m / 60, m % 60)
 
 abbrev pub duration : Kind ℕ
-duration = kept isWritten inMinutes inHours (digits 2 ⊗ digits 2)
+duration = kept isDurationOf inMinutes inHours (digits 2 ⊗ digits 2)
 
 abbrev pub isMoment : ℕ × (ℕ × ℕ) → Bool
 isMoment (day, (hour, minute)) = isIssue day hour minute

@@ -9,5 +9,5 @@ unfoldable pub places : Codec (List ℕ)
 places = listOf 31 8 place dash plus
 
 -- duration and issue
-unfoldable pub times : Codec (ℕ × (ℕ × (ℕ × ℕ)))
-times = field 9 duration dash ▷ field 10 issue dash
+unfoldable pub durationAndIssue : Codec (ℕ × (ℕ × (ℕ × ℕ)))
+durationAndIssue = field 9 duration dash ▷ field 10 issue dash

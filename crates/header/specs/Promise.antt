@@ -5,16 +5,16 @@ use mathlib.Core.Bool.{Bool}
 use mathlib.Core.List.{List}
 use lib.ListN.{length}
 use Rattle.laws.specs.Space.{pasted, leaves}
-use Rattle.header.specs.Header.{isOrigin, isEvent, isSender, isWritten, isIssue, isDuration, textOf}
+use Rattle.header.specs.Header.{isOrigin, isEvent, isSender, isDurationOf, isIssue, isDuration, textOf}
 use Rattle.header.specs.Reading.{readSays}
 use Rattle.header.specs.Writing.{writeSays}
-use Rattle.header.specs.Answers.{said, saidWrote, fieldsFor, alertIn}
+use Rattle.header.specs.Answers.{saidRead, saidWrote, fieldsFor, alertIn}
 use Rattle.header.specs.declared.Fields.{Fields}
-use Rattle.header.specs.declared.Answer.{Answer}
+use Rattle.header.specs.declared.ReadAnswer.{ReadAnswer}
 use Rattle.header.specs.declared.Wrote.{Wrote}
 
-pub record ReadPromise (text : List ℕ) (r : Answer) : Type 0 where
-  pub says : said r ≡ readSays text
+pub record ReadPromise (text : List ℕ) (r : ReadAnswer) : Type 0 where
+  pub says : saidRead r ≡ readSays text
   pub fields : r .fields ≡ fieldsFor (readSays text)
 
 -- of fields f and lent space that holds d at first and d′ at last
@@ -38,5 +38,5 @@ pub record IsEventPromise (b : List ℕ) (r : Bool) : Type 0 where
 pub record IsSenderPromise (b : List ℕ) (r : Bool) : Type 0 where
   pub says : r ≡ isSender b
 
-pub record IsWrittenPromise (hours minutes : ℕ) (r : Bool) : Type 0 where
-  pub says : r ≡ isWritten (hours, minutes)
+pub record IsDurationOfPromise (hours minutes : ℕ) (r : Bool) : Type 0 where
+  pub says : r ≡ isDurationOf (hours, minutes)

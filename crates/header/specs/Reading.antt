@@ -23,7 +23,7 @@ readSays text = choose (ltb 252 (length text)) (refusedAt 4 252) (toTheEnd (head
 -- where reading stops: at 252, in a field of the table, or at the leftover
 pub data ReadStops (text : List ℕ) : ℕ → ℕ → Type 0 where
   long : 252 < length text → ReadStops text 4 252
-  field : {n i : ℕ} → length text ≤ 252 → header .get text 0 ≡ no n i → ReadStops text n i
+  in-field : {n i : ℕ} → length text ≤ 252 → header .get text 0 ≡ no n i → ReadStops text n i
   left : {h : Front × List ℕ} {x : ℕ} {rest : List ℕ} {i : ℕ} → length text ≤ 252 → header .get text 0 ≡ got h (x ∷ rest) i → ReadStops text 12 i
 
 -- ---- where the table stops, field by field
@@ -35,7 +35,7 @@ pub record Opened (text : List ℕ) : Type 0 where
   pub seven : fits event (is dash) (drop 9 text) ≡ true
 
 -- and the list of places ends before index j
-pub record Listed (text : List ℕ) (j : ℕ) : Type 0 where
+pub record PlacesEnd (text : List ℕ) (j : ℕ) : Type 0 where
   pub opened : Opened text
   pub places : List ℕ
   pub eight : listOf 31 8 place dash plus .get (drop 13 text) 13 ≡ got places (drop j text) j
@@ -44,9 +44,11 @@ pub record Listed (text : List ℕ) (j : ℕ) : Type 0 where
 pub data TableStops (text : List ℕ) : ℕ → ℕ → Type 0 where
   at-start : fits start (is dash) (drop 0 text) ≡ false → TableStops text 5 0
   at-origin : fits start (is dash) (drop 0 text) ≡ true → fits origin (is dash) (drop 5 text) ≡ false → TableStops text 6 5
-  at-event : fits start (is dash) (drop 0 text) ≡ true → fits origin (is dash) (drop 5 text) ≡ true → fits event (is dash) (drop 9 text) ≡ false → TableStops text 7 9
+  at-event : fits start (is dash) (drop 0 text) ≡ true → fits origin (is dash) (drop 5 text) ≡ true → fits event (is dash) (drop 9 text) ≡ false
+      → TableStops text 7 9
   at-place : {i : ℕ} → Opened text → ListStops place dash plus 31 (drop 13 text) 13 i → TableStops text 8 i
-  at-duration : {j : ℕ} → Listed text j → fits duration (is dash) (drop j text) ≡ false → TableStops text 9 j
-  at-issue : {j : ℕ} → Listed text j → fits duration (is dash) (drop j text) ≡ true → fits issue (is dash) (drop (j + 5) text) ≡ false → TableStops text 10 (j + 5)
-  at-sender : {j : ℕ} → Listed text j → fits duration (is dash) (drop j text) ≡ true → fits issue (is dash) (drop (j + 5) text) ≡ true
+  at-duration : {j : ℕ} → PlacesEnd text j → fits duration (is dash) (drop j text) ≡ false → TableStops text 9 j
+  at-issue : {j : ℕ} → PlacesEnd text j → fits duration (is dash) (drop j text) ≡ true → fits issue (is dash) (drop (j + 5) text) ≡ false
+      → TableStops text 10 (j + 5)
+  at-sender : {j : ℕ} → PlacesEnd text j → fits duration (is dash) (drop j text) ≡ true → fits issue (is dash) (drop (j + 5) text) ≡ true
       → fits sender (is dash) (drop (j + 5 + 8) text) ≡ false → TableStops text 11 (j + 5 + 8)

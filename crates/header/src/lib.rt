@@ -1,7 +1,7 @@
 // What a header says, and which values each of its fields allows. Crate `header_reading` reads its text, crate `header_writing` writes it.
 ghost use mathlib.Core.Path.{_≡_};
 ghost use Rattle.header.specs.Header.{isSenderByte};
-ghost use Rattle.header.specs.Promise.{IsOriginPromise, IsEventPromise, IsSenderPromise, IsWrittenPromise, IsIssuePromise, IsDurationPromise};
+ghost use Rattle.header.specs.Promise.{IsOriginPromise, IsEventPromise, IsSenderPromise, IsDurationOfPromise, IsIssuePromise, IsDurationPromise};
 
 // The fields of a header: `count` of the places stand, and the rest are 0. The duration is in minutes. Numbers come before bytes,
 // so that no gap stands between two fields and a copy is one piece.
@@ -17,14 +17,14 @@ pub struct Fields {
     pub sender: [u8; 8],
 }
 
-pub enum Verdict {
-    Granted,
-    RefusedAt(u32, usize),
+pub enum ReadVerdict {
+    Reads,
+    StopsAt(u32, usize),
 }
 
 // What reading answers; where it is refused, the fields are zeros.
-pub struct Answer {
-    pub verdict: Verdict,
+pub struct ReadAnswer {
+    pub verdict: ReadVerdict,
     pub fields: Fields,
 }
 
@@ -46,7 +46,7 @@ fn sender_byte(b: u8) -> bool
     b != 43
 }
 
-// Whether bytes are letters of an event.
+// Whether bytes are all capital letters, as an event's are.
 pub fn is_event(b: &[u8]) -> bool
     ensures { λ r. ⌜ IsEventPromise (now (b .entry)) r ⌝ }
 {
@@ -60,7 +60,7 @@ pub fn is_event(b: &[u8]) -> bool
     true
 }
 
-// Whether bytes are a sender's.
+// Whether bytes are all ones that a sender may have.
 pub fn is_sender(b: &[u8]) -> bool
     ensures { λ r. ⌜ IsSenderPromise (now (b .entry)) r ⌝ }
 {
@@ -91,8 +91,8 @@ pub fn is_origin(b: &[u8]) -> bool
 }
 
 // Whether a text can say so, hours and minutes as they are written.
-pub fn is_written(hours: u32, minutes: u32) -> bool
-    ensures { λ r. ⌜ IsWrittenPromise hours minutes r ⌝ }
+pub fn is_duration_of(hours: u32, minutes: u32) -> bool
+    ensures { λ r. ⌜ IsDurationOfPromise hours minutes r ⌝ }
 {
     if hours == 0 {
         if minutes == 15 {
@@ -116,7 +116,7 @@ pub fn is_written(hours: u32, minutes: u32) -> bool
 pub fn is_duration(minutes: u32) -> bool
     ensures { λ r. ⌜ IsDurationPromise minutes r ⌝ }
 {
-    is_written(minutes / 60, minutes % 60)
+    is_duration_of(minutes / 60, minutes % 60)
 }
 
 // Whether a text can say this day, hour and minute.

@@ -1,7 +1,7 @@
 // Reads texts, one to a line, and prints what each says or the number and index of its refusal, and whether it writes back
 // the same; then tries the writer on fields that it must refuse.
 use header::Fields;
-use header::Verdict;
+use header::ReadVerdict;
 use header::Wrote;
 ghost use Prim.Native.Nat.{_≤_};
 ghost use lib.ListN.{length};
@@ -76,13 +76,13 @@ fn one(text: &[u8]) {
     let a = header_reading::read(text);
     let v = a.verdict;
     match v {
-        Verdict::Granted => {
+        ReadVerdict::Reads => {
             let f = a.fields;
             let mut out = [0u8; 252];
             fields(f);
             back(f, &mut out, text);
         }
-        Verdict::RefusedAt(n, i) => {
+        ReadVerdict::StopsAt(n, i) => {
             number(n);
             word(b" at ");
             index(i);

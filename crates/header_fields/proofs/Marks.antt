@@ -1,4 +1,4 @@
--- A field and its mark `-` at index at of a text, by the tests that code makes. Assumes nothing.
+-- A field and its mark `-` at index at of a text, by the tests that code makes.
 use Prim.Native.Nat.{ℕ, _+_, _-_, _≤_, _<_}
 use mathlib.Core.Path.{_≡_, sym, _∙_}
 use mathlib.Core.List.{List}

@@ -1,4 +1,4 @@
--- A duration and an issue by the numbers that their digits make. Assumes nothing.
+-- A duration and an issue by the numbers that their digits make.
 use Prim.Native.Nat.{ℕ, _+_, _*_}
 use mathlib.Core.Path.{_≡_, _∙_}
 use mathlib.Core.List.{List}
@@ -11,13 +11,14 @@ use Rattle.laws.proofs.Parts.{part-head, part-tail}
 use Rattle.codec.specs.Promise.{numberAt}
 use Rattle.codec.specs.declared.Number.the-variants.{Is}
 use Rattle.codec.proofs.Numbers.{number-is}
-use Rattle.header.specs.Header.{isWritten, isIssue, duration, issue}
+use Rattle.header.specs.Header.{isDurationOf, isIssue, duration, issue}
 
 -- ---- hours and minutes
 
 module _ (t : List ℕ) (at : ℕ) where
   duration-parts : duration .allowed (take 4 (drop at t))
-      ≡ (every digit (take 2 (drop at t)) && every digit (take 2 (drop (at + 2) t))) && isWritten (decFrom 0 (take 2 (drop at t)), decFrom 0 (take 2 (drop (at + 2) t)))
+      ≡ (every digit (take 2 (drop at t)) && every digit (take 2 (drop (at + 2) t)))
+      && isDurationOf (decFrom 0 (take 2 (drop at t)), decFrom 0 (take 2 (drop (at + 2) t)))
   duration-parts = simp (part-head t at 4 2 (omega arith), part-tail t at 2 2)
 
   pub no-hours : every digit (take 2 (drop at t)) ≡ false → duration .allowed (take 4 (drop at t)) ≡ false
@@ -28,7 +29,7 @@ module _ (t : List ℕ) (at : ℕ) where
 
 -- the two numbers are read: which bytes are allowed is what the test of the two says, and what they mean
 pub record Duration (t : List ℕ) (at h m : ℕ) : Type 0 where
-  pub test : duration .allowed (take 4 (drop at t)) ≡ isWritten (h, m)
+  pub test : duration .allowed (take 4 (drop at t)) ≡ isDurationOf (h, m)
   pub mean : duration .value (take 4 (drop at t)) ≡ h * 60 + m
 
 pub a-duration : (t : List ℕ) (at h m : ℕ) → numberAt t at 2 ≡ Is h → numberAt t (at + 2) 2 ≡ Is m → Duration t at h m
@@ -64,12 +65,22 @@ pub record Moment (t : List ℕ) (at d h m : ℕ) : Type 0 where
   pub test : issue .allowed (take 7 (drop at t)) ≡ isIssue d h m
   pub mean : issue .value (take 7 (drop at t)) ≡ (d, (h, m))
 
-pub a-moment : (t : List ℕ) (at d h m : ℕ) → numberAt t at 3 ≡ Is d → numberAt t (at + 3) 2 ≡ Is h → numberAt t (at + 5) 2 ≡ Is m → Moment t at d h m
+pub a-moment : (t : List ℕ) (at d h m : ℕ)
+    → numberAt t at 3 ≡ Is d → numberAt t (at + 3) 2 ≡ Is h → numberAt t (at + 5) 2 ≡ Is m → Moment t at d h m
 a-moment t at d h m ed eh em =
     let x = number-is _ _ _ _ ed in
     let y = number-is _ _ _ _ eh in
     let z = number-is _ _ _ _ em in
     record {
       test = issue-parts t at ∙ simp (x .0, x .1, y .0, y .1, z .0, z .1);
-      mean = simp (part-head t at 7 3 (omega arith), part-tail t at 3 4, part-head t (at + 3) 4 2 (omega arith), part-tail t (at + 3) 2 2, on at, x .1, y .1, z .1);
+      mean = simp (
+        part-head t at 7 3 (omega arith),
+        part-tail t at 3 4,
+        part-head t (at + 3) 4 2 (omega arith),
+        part-tail t (at + 3) 2 2,
+        on at,
+        x .1,
+        y .1,
+        z .1,
+      );
     }

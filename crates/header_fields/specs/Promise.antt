@@ -9,7 +9,7 @@ use Rattle.codec.specs.Codec.{fits, is, either, step, field}
 use Rattle.codec.specs.declared.Number.{Number}
 use Rattle.header.specs.Header.{dash, plus, place, duration, issue}
 use Rattle.header_fields.specs.Says.{placeSays, minutesSays, issueSays}
-use Rattle.header_fields.specs.declared.Place.{Place}
+use Rattle.header_fields.specs.declared.Step.{Step}
 use Rattle.header_fields.specs.declared.Issue.{Issue}
 
 -- whether the field and `-` stand there
@@ -17,7 +17,7 @@ pub record StandsPromise {A : Type 0} (k : Kind A) (text : List ℕ) (at : ℕ) 
   pub says : r ≡ fits k (is dash) (drop at text)
 
 -- a place, with either mark
-pub record PlaceAtPromise (text : List ℕ) (at : ℕ) (r : Place) : Type 0 where
+pub record PlaceAtPromise (text : List ℕ) (at : ℕ) (r : Step) : Type 0 where
   pub says : placeSays text r ≡ step 8 place (either dash plus) (drop at text) at
 
 pub record MinutesAtPromise (text : List ℕ) (at : ℕ) (r : Number) : Type 0 where

@@ -3,16 +3,17 @@ use codec::Number;
 ghost use Rattle.header.specs.Header.{start, origin, event, sender};
 ghost use Rattle.header_fields.specs.Promise.{StandsPromise, PlaceAtPromise, MinutesAtPromise, IssueAtPromise};
 
-// The place step: a code with the index after its mark, or the number and the index at which reading stops.
-pub enum Place {
-    Code(u32, usize),
+// A step of reading: what was got, with the index after its mark; or the number and the index at which reading stops. Of one place it
+// is the code, and of a list of places how many they are.
+pub enum Step {
+    Got(u32, usize),
     Stop(u32, usize),
 }
 
 // Day, hour and minute.
 pub enum Issue {
     When(u32, u32, u32),
-    Never,
+    NoIssue,
 }
 
 // Whether ZCZC and its mark stand there.
@@ -87,81 +88,81 @@ pub fn sender_at(text: &[u8], at: usize) -> bool
     text[e] == 45
 }
 
-// The place that stands there, with either mark.
-pub fn place_at(text: &[u8], at: usize) -> Place
+// The place that stands there with either mark, and the index after it; or 8 and the index.
+pub fn place_at(text: &[u8], at: usize) -> Step
     ensures { λ r. ⌜ PlaceAtPromise (now (text .entry)) at r ⌝ }
 {
     let n = text.len();
     if n <= 6 {
-        return Place::Stop(8, at);
+        return Step::Stop(8, at);
     }
     if n - 6 <= at {
-        return Place::Stop(8, at);
+        return Step::Stop(8, at);
     }
     let Number::Is(code) = codec::digits_at(text, at, 6) else {
-        return Place::Stop(8, at);
+        return Step::Stop(8, at);
     };
     let e = at + 6;
     if text[e] == 45 {
-        return Place::Code(code, e + 1);
+        return Step::Got(code, e + 1);
     }
     if text[e] == 43 {
-        return Place::Code(code, e + 1);
+        return Step::Got(code, e + 1);
     }
-    Place::Stop(8, at)
+    Step::Stop(8, at)
 }
 
-// The minutes of the duration that stands there with its mark.
+// The minutes of the duration that stands there with its mark, or none.
 pub fn minutes_at(text: &[u8], at: usize) -> Number
     ensures { λ r. ⌜ MinutesAtPromise (now (text .entry)) at r ⌝ }
 {
     let n = text.len();
     if n <= 4 {
-        return Number::None;
+        return Number::NoNumber;
     }
     if n - 4 <= at {
-        return Number::None;
+        return Number::NoNumber;
     }
     let Number::Is(h) = codec::digits_at(text, at, 2) else {
-        return Number::None;
+        return Number::NoNumber;
     };
     let Number::Is(m) = codec::digits_at(text, at + 2, 2) else {
-        return Number::None;
+        return Number::NoNumber;
     };
-    if !header::is_written(h, m) {
-        return Number::None;
+    if !header::is_duration_of(h, m) {
+        return Number::NoNumber;
     }
     if text[at + 4] != 45 {
-        return Number::None;
+        return Number::NoNumber;
     }
     Number::Is(h * 60 + m)
 }
 
-// The issue that stands there with its mark.
+// Day, hour and minute of the issue that stands there with its mark, or none.
 pub fn issue_at(text: &[u8], at: usize) -> Issue
     ensures { λ r. ⌜ IssueAtPromise (now (text .entry)) at r ⌝ }
 {
     let n = text.len();
     if n <= 7 {
-        return Issue::Never;
+        return Issue::NoIssue;
     }
     if n - 7 <= at {
-        return Issue::Never;
+        return Issue::NoIssue;
     }
     let Number::Is(d) = codec::digits_at(text, at, 3) else {
-        return Issue::Never;
+        return Issue::NoIssue;
     };
     let Number::Is(h) = codec::digits_at(text, at + 3, 2) else {
-        return Issue::Never;
+        return Issue::NoIssue;
     };
     let Number::Is(m) = codec::digits_at(text, at + 5, 2) else {
-        return Issue::Never;
+        return Issue::NoIssue;
     };
     if !header::is_issue(d, h, m) {
-        return Issue::Never;
+        return Issue::NoIssue;
     }
     if text[at + 7] != 45 {
-        return Issue::Never;
+        return Issue::NoIssue;
     }
     Issue::When(d, h, m)
 }

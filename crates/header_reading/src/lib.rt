@@ -1,46 +1,54 @@
 // Reads a header text: one pass over the text, and nothing is copied but the fields.
 use codec::Number;
-use header::Answer;
 use header::Fields;
-use header::Verdict;
+use header::ReadAnswer;
+use header::ReadVerdict;
 use header_fields::Issue;
-use header_fields::Place;
+use header_fields::Step;
 ghost use mathlib.Core.Path.{_≡_};
 ghost use Prim.Native.Nat.{ℕ, _+_, _≤_};
 ghost use lib.ListN.{length, take, drop, replicate};
 ghost use Rattle.header.specs.Promise.{ReadPromise};
-ghost use Rattle.header_reading.specs.Steps.{PlacesAt, TimesAt, FrontOf, noAnswer, endedBy};
+ghost use Rattle.header_reading.specs.Steps.{PlacesAt, DurationAndIssueAt, FrontOf, noAnswer};
 
-// How the list of places ends: so many of them, with the index after the last mark; or the index at which no place stands.
-enum Run {
-    Ends(usize, usize),
-    Stops(usize),
+// What stands between the places and the sender.
+struct DurationAndIssue {
+    minutes: u32,
+    day: u32,
+    hour: u32,
+    minute: u32,
 }
 
-// Everything before the sender: how many places, minutes, day, hour, minute, and the index after them; or the number and the
-// index at which reading stops.
-enum Front {
-    Read(usize, u32, u32, u32, u32, usize),
+// Everything before the sender: how many places, duration and issue, and the index after them; or the number and the index at which
+// reading stops.
+enum FrontRead {
+    Read(usize, DurationAndIssue, usize),
     Fault(u32, usize),
 }
 
 // Duration and issue, after so many places.
-fn times_at(text: &[u8], at: usize, count: usize) -> Front
+fn duration_and_issue_at(text: &[u8], at: usize, count: usize) -> FrontRead
     requires { ⌜ at ≤ length (now text) ⌝ }
-    ensures { λ r. ⌜ TimesAt (now (text .entry)) at count r ⌝ }
+    ensures { λ r. ⌜ DurationAndIssueAt (now (text .entry)) at count r ⌝ }
 {
     let Number::Is(minutes) = header_fields::minutes_at(text, at) else {
-        return Front::Fault(9, at);
+        return FrontRead::Fault(9, at);
     };
     let Issue::When(day, hour, minute) = header_fields::issue_at(text, at + 5) else {
-        return Front::Fault(10, at + 5);
+        return FrontRead::Fault(10, at + 5);
     };
-    Front::Read(count, minutes, day, hour, minute, at + 13)
+    let span = DurationAndIssue {
+        minutes: minutes,
+        day: day,
+        hour: hour,
+        minute: minute,
+    };
+    FrontRead::Read(count, span, at + 13)
 }
 
-// The list of places: after a place comes a mark, after `-` another place. Codes are put to the front of lent words, which
-// are zeros.
-fn places_at(text: &[u8], at: usize, codes: &mut [u32]) -> Run
+// The list of places: after a place comes a mark, after `-` another place. A step that stops is handed on as it is. Codes are put to
+// the front of lent words, which are zeros.
+fn places_at(text: &[u8], at: usize, codes: &mut [u32]) -> Step
     requires { ⌜ (at ≤ length (now text)) × (now codes ≡ replicate {A = ℕ} 31 0) ⌝ }
     ensures { λ r. ⌜ PlacesAt (now (text .entry)) at (now (codes .exit)) r ⌝ }
 {
@@ -48,37 +56,37 @@ fn places_at(text: &[u8], at: usize, codes: &mut [u32]) -> Run
     let mut i = at;
     while n < 31 {
         let step = header_fields::place_at(text, i);
-        let Place::Code(code, next) = step else {
-            return Run::Stops(i);
+        let Step::Got(code, next) = step else {
+            return step;
         };
         codes[n] = code;
         n += 1;
         if text[i + 6] == 43 {
-            return Run::Ends(n, next);
+            return Step::Got(n as u32, next);
         }
         i = next;
     }
-    Run::Stops(i)
+    Step::Stop(8, i)
 }
 
 // Everything before the sender.
-fn front_of(text: &[u8], codes: &mut [u32]) -> Front
+fn front_of(text: &[u8], codes: &mut [u32]) -> FrontRead
     requires { ⌜ now codes ≡ replicate {A = ℕ} 31 0 ⌝ }
     ensures { λ r. ⌜ FrontOf (now (text .entry)) (now (codes .exit)) r ⌝ }
 {
     if !header_fields::start_at(text, 0) {
-        return Front::Fault(5, 0);
+        return FrontRead::Fault(5, 0);
     }
     if !header_fields::origin_at(text, 5) {
-        return Front::Fault(6, 5);
+        return FrontRead::Fault(6, 5);
     }
     if !header_fields::event_at(text, 9) {
-        return Front::Fault(7, 9);
+        return FrontRead::Fault(7, 9);
     }
-    let run = places_at(text, 13, codes);
-    match run {
-        Run::Stops(i) => Front::Fault(8, i),
-        Run::Ends(count, at) => times_at(text, at, count),
+    let list = places_at(text, 13, codes);
+    match list {
+        Step::Stop(n, i) => FrontRead::Fault(n, i),
+        Step::Got(count, at) => duration_and_issue_at(text, at, count as usize),
     }
 }
 
@@ -105,7 +113,7 @@ fn eight(text: &[u8], at: usize) -> [u8; 8]
     ]
 }
 
-fn refused(n: u32, i: usize) -> Answer
+fn refused(n: u32, i: usize) -> ReadAnswer
     ensures { λ r. ⌜ r ≡ noAnswer n i ⌝ }
 {
     let none = Fields {
@@ -119,33 +127,23 @@ fn refused(n: u32, i: usize) -> Answer
         event: [0u8; 3],
         sender: [0u8; 8],
     };
-    Answer {
-        verdict: Verdict::RefusedAt(n, i),
+    ReadAnswer {
+        verdict: ReadVerdict::StopsAt(n, i),
         fields: none,
     }
 }
 
-fn ended_by(front: Front) -> Answer
-    ensures { λ r. ⌜ r ≡ endedBy front ⌝ }
-{
-    match front {
-        Front::Read(_, _, _, _, _, _) => refused(0, 0),
-        Front::Fault(n, i) => refused(n, i),
-    }
-}
-
-// The fields of a text, or the number and the index of what is not allowed.
-pub fn read(text: &[u8]) -> Answer
+// The rest of a text whose front is read up to index at: the sender and its mark, and nothing behind them.
+fn signed(
+    text: &[u8],
+    codes: [u32; 31],
+    count: usize,
+    span: DurationAndIssue,
+    at: usize,
+) -> ReadAnswer
+    requires { ⌜ (length (now text) ≤ 252) × FrontOf (now text) codes (FrontRead.Read count span at) ⌝ }
     ensures { λ r. ⌜ ReadPromise (now (text .entry)) r ⌝ }
 {
-    if 252 < text.len() {
-        return refused(4, 252);
-    }
-    let mut codes = [0u32; 31];
-    let front = front_of(text, &mut codes);
-    let Front::Read(count, minutes, day, hour, minute, at) = front else {
-        return ended_by(front);
-    };
     if !header_fields::sender_at(text, at) {
         return refused(11, at);
     }
@@ -157,17 +155,32 @@ pub fn read(text: &[u8]) -> Answer
     let sender = eight(text, at);
     let fields = Fields {
         places: codes,
-        duration: minutes,
+        duration: span.minutes,
         count: count,
-        day: day,
-        hour: hour,
-        minute: minute,
+        day: span.day,
+        hour: span.hour,
+        minute: span.minute,
         origin: origin,
         event: event,
         sender: sender,
     };
-    Answer {
-        verdict: Verdict::Granted,
+    ReadAnswer {
+        verdict: ReadVerdict::Reads,
         fields: fields,
+    }
+}
+
+// The fields of a text, or the number and the index of what is not allowed.
+pub fn read(text: &[u8]) -> ReadAnswer
+    ensures { λ r. ⌜ ReadPromise (now (text .entry)) r ⌝ }
+{
+    if 252 < text.len() {
+        return refused(4, 252);
+    }
+    let mut codes = [0u32; 31];
+    let front = front_of(text, &mut codes);
+    match front {
+        FrontRead::Fault(n, i) => refused(n, i),
+        FrontRead::Read(count, span, at) => signed(text, codes, count, span, at),
     }
 }

@@ -1,4 +1,4 @@
--- What the writer says and leaves, by the tests that code makes. Assumes nothing.
+-- What the writer says and leaves, by the tests that code makes.
 use Prim.Native.Nat.{ℕ, _+_, _*_, _/_, _%_, _≤_, _<_}
 use mathlib.Core.Path.{_≡_, refl, sym, ap, _∙_}
 use mathlib.Core.List.{List, [], _∷_, _++_, append-assoc}
@@ -76,7 +76,10 @@ pub record Fine (f : Fields) : Type 0 where
 module _ (f : Fields) (w : Fine f) where
   pub well-formed : WellFormed (alertIn f)
   unfolding WellFormed header front isDuration
-  well-formed = more refl (more (ap not (w .six)) (more (ap not (w .seven)) (more (ap not (w .eight)) (more (ap not (w .nine)) (more (ap not (w .ten)) (more (ap not (w .eleven)) none))))))
+  well-formed =
+      more refl
+      (more (ap not (w .six))
+      (more (ap not (w .seven)) (more (ap not (w .eight)) (more (ap not (w .nine)) (more (ap not (w .ten)) (more (ap not (w .eleven)) none))))))
 
   pub size : (length (textOf (alertIn f)) ≡ 35 + 7 * f .count) × (1 ≤ f .count) × (f .count ≤ 31)
   size =
@@ -105,17 +108,20 @@ granted-size f room n e =
 
 -- ---- what is left
 
-regroup : (a b c p x y z : List ℕ) → ((a ++ (b ++ c)) ++ p) ++ (x ++ (y ++ z)) ≡ (a ++ (b ++ (c ++ (p ++ (x ++ y))))) ++ z
+regroup : (a b c p x y z : List ℕ) → (a ++ (b ++ c)) ++ (p ++ (x ++ (y ++ z))) ≡ (a ++ (b ++ (c ++ (p ++ (x ++ y))))) ++ z
 regroup a b c p x y z = simp append-assoc
 
 pub all-text : (f : Fields) → f .count ≤ length (f .places) → allText f ≡ textOf (alertIn f)
 unfolding textOf header front allText openingText closingText placesText durationText issueText
 all-text f h =
-    regroup (field 5 start dash .text tt) (field 6 origin dash .text (f .origin)) (field 7 event dash .text (f .event)) (textList place dash plus (take (f .count) (f .places)))
-    (field 9 duration dash .text (f .duration)) (field 10 issue dash .text (f .day, (f .hour, f .minute))) (field 11 sender dash .text (f .sender))
-    ∙ ap (λ (ps : List ℕ). (field 5 start dash .text tt ++ (field 6 origin dash .text (f .origin) ++ (field 7 event dash .text (f .event) ++ (textList place dash plus ps
-    ++ (field 9 duration dash .text (f .duration) ++ field 10 issue dash .text (f .day, (f .hour, f .minute))))))) ++ field 11 sender dash .text (f .sender))
-    (sym (counted-take (f .places) (f .count) h))
+    let a = field 5 start dash .text tt in
+    let b = field 6 origin dash .text (f .origin) in
+    let c = field 7 event dash .text (f .event) in
+    let x = field 9 duration dash .text (f .duration) in
+    let y = field 10 issue dash .text (f .day, (f .hour, f .minute)) in
+    let z = field 11 sender dash .text (f .sender) in
+    regroup a b c (textList place dash plus (take (f .count) (f .places))) x y z
+    ∙ ap (λ (ps : List ℕ). (a ++ (b ++ (c ++ (textList place dash plus ps ++ (x ++ y))))) ++ z) (sym (counted-take (f .places) (f .count) h))
 
 pub left-no : (f : Fields) (d : List ℕ) (r : Wrote) (m : ℕ) → saidWrote r ≡ writeSays (alertIn f) (length d) → r ≡ Refused m → WritePromise f d d r
 left-no f d r m e q = record {
@@ -123,7 +129,8 @@ left-no f d r m e q = record {
   space = ap (λ (s : Said ℕ). leaves (λ n out. pasted out 0 (textOf (alertIn f))) s d) (sym (ap saidWrote q) ∙ e);
 }
 
-pub left-yes : (f : Fields) (d d′ : List ℕ) (n : ℕ) → f .count ≤ length (f .places) → granted n ≡ writeSays (alertIn f) (length d) → d′ ≡ pasted d 0 (allText f) → WritePromise f d d′ (Written n)
+pub left-yes : (f : Fields) (d d′ : List ℕ) (n : ℕ) → f .count ≤ length (f .places) → granted n ≡ writeSays (alertIn f) (length d)
+    → d′ ≡ pasted d 0 (allText f) → WritePromise f d d′ (Written n)
 left-yes f d d′ n h e p = record {
   says = e;
   space = p ∙ ap (pasted d 0) (all-text f h) ∙ ap (λ (s : Said ℕ). leaves (λ n out. pasted out 0 (textOf (alertIn f))) s d) e;

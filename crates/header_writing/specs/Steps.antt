@@ -28,4 +28,4 @@ unfoldable pub closingText : Fields → List ℕ
 closingText f = durationText (f .duration) ++ (issueText (f .day) (f .hour) (f .minute) ++ field 11 sender dash .text (f .sender))
 
 unfoldable pub allText : Fields → List ℕ
-allText f = (openingText f ++ placesText (take (f .count) (f .places))) ++ closingText f
+allText f = openingText f ++ (placesText (take (f .count) (f .places)) ++ closingText f)

@@ -5,7 +5,8 @@ ghost use mathlib.Core.Path.{_≡_};
 ghost use Prim.Native.Nat.{_+_, _*_, _≤_};
 ghost use mathlib.Core.List.{_∷_, [], _++_};
 ghost use lib.ListN.{length, take};
-ghost use Rattle.codec.specs.Promise.{Puts};
+ghost use Rattle.laws.specs.Numbers.{dig};
+ghost use Rattle.laws.specs.Space.{pasted};
 ghost use Rattle.header.specs.Writing.{writeSays};
 ghost use Rattle.header.specs.Answers.{counted, alertIn, saidWrote};
 ghost use Rattle.header.specs.Promise.{WritePromise};
@@ -67,86 +68,92 @@ fn judge(f: Fields, codes: &[u32], room: usize) -> Wrote
     Wrote::Written(n)
 }
 
-// These write a part of the text at index at, where there is room for it, and return the index after it.
+// These write a part of the text at index at, in space that has room for it. Each part's length is known, and so is its index.
+
+// A place and its mark.
+fn put_place(out: &mut [u8], at: usize, code: u32, mark: u8)
+    requires { ⌜ at + 7 ≤ length (now out) ⌝ }
+    ensures { λ _. ⌜ now (out .exit) ≡ pasted (now (out .entry)) at (dig 6 code ++ (mark ∷ [])) ⌝ }
+{
+    codec::put_digits(out, at, code, 6);
+    codec::put_byte(out, at + 6, mark);
+}
 
 // The places, each with its mark.
-fn put_places(out: &mut [u8], at: usize, codes: &[u32], count: usize) -> usize
+fn put_places(out: &mut [u8], at: usize, codes: &[u32], count: usize)
     requires { ⌜ (1 ≤ count) × ((count ≤ length (now codes)) × (at + 7 * count ≤ length (now out))) ⌝ }
-    ensures { λ r. ⌜ Puts (now (out .entry)) at (placesText (take count (now (codes .entry)))) (now (out .exit)) r ⌝ }
+    ensures { λ _. ⌜ now (out .exit) ≡ pasted (now (out .entry)) at (placesText (take count (now (codes .entry)))) ⌝ }
 {
     let mut k: usize = 0;
-    let mut i = at;
     while k + 1 < count {
-        let e = codec::put_digits(out, i, codes[k], 6);
-        i = codec::put_byte(out, e, 45);
+        put_place(out, at + 7 * k, codes[k], 45);
         k += 1;
     }
-    let e = codec::put_digits(out, i, codes[k], 6);
-    codec::put_byte(out, e, 43)
+    put_place(out, at + 7 * k, codes[k], 43);
 }
 
 // Some bytes and the mark `-`.
-fn put_marked(out: &mut [u8], at: usize, b: &[u8]) -> usize
+fn put_marked(out: &mut [u8], at: usize, b: &[u8])
     requires { ⌜ at + length (now b) + 1 ≤ length (now out) ⌝ }
-    ensures { λ r. ⌜ Puts (now (out .entry)) at (now (b .entry) ++ (45 ∷ [])) (now (out .exit)) r ⌝ }
+    ensures { λ _. ⌜ now (out .exit) ≡ pasted (now (out .entry)) at (now (b .entry) ++ (45 ∷ [])) ⌝ }
 {
-    let e = codec::put_bytes(out, at, b);
-    codec::put_byte(out, e, 45)
+    codec::put_bytes(out, at, b);
+    codec::put_byte(out, at + b.len(), 45);
 }
 
-fn put_duration(out: &mut [u8], at: usize, minutes: u32) -> usize
+fn put_duration(out: &mut [u8], at: usize, minutes: u32)
     requires { ⌜ at + 5 ≤ length (now out) ⌝ }
-    ensures { λ r. ⌜ Puts (now (out .entry)) at (durationText minutes) (now (out .exit)) r ⌝ }
+    ensures { λ _. ⌜ now (out .exit) ≡ pasted (now (out .entry)) at (durationText minutes) ⌝ }
 {
-    let m = codec::put_digits(out, at, minutes / 60, 2);
-    let e = codec::put_digits(out, m, minutes % 60, 2);
-    codec::put_byte(out, e, 45)
+    codec::put_digits(out, at, minutes / 60, 2);
+    codec::put_digits(out, at + 2, minutes % 60, 2);
+    codec::put_byte(out, at + 4, 45);
 }
 
-fn put_issue(out: &mut [u8], at: usize, day: u32, hour: u32, minute: u32) -> usize
+fn put_issue(out: &mut [u8], at: usize, day: u32, hour: u32, minute: u32)
     requires { ⌜ at + 8 ≤ length (now out) ⌝ }
-    ensures { λ r. ⌜ Puts (now (out .entry)) at (issueText day hour minute) (now (out .exit)) r ⌝ }
+    ensures { λ _. ⌜ now (out .exit) ≡ pasted (now (out .entry)) at (issueText day hour minute) ⌝ }
 {
-    let h = codec::put_digits(out, at, day, 3);
-    let m = codec::put_digits(out, h, hour, 2);
-    let e = codec::put_digits(out, m, minute, 2);
-    codec::put_byte(out, e, 45)
+    codec::put_digits(out, at, day, 3);
+    codec::put_digits(out, at + 3, hour, 2);
+    codec::put_digits(out, at + 5, minute, 2);
+    codec::put_byte(out, at + 7, 45);
 }
 
 // Start, origin and event.
-fn put_opening(out: &mut [u8], f: Fields) -> usize
+fn put_opening(out: &mut [u8], f: Fields)
     requires { ⌜ 13 ≤ length (now out) ⌝ }
-    ensures { λ r. ⌜ Puts (now (out .entry)) 0 (openingText f) (now (out .exit)) r ⌝ }
+    ensures { λ _. ⌜ now (out .exit) ≡ pasted (now (out .entry)) 0 (openingText f) ⌝ }
     ensures { λ _. ⌜ length (openingText f) ≡ 13 ⌝ }
 {
     let origin = f.origin;
     let event = f.event;
-    let o = codec::put_bytes(out, 0, b"ZCZC-");
-    let e = put_marked(out, o, &origin);
-    put_marked(out, e, &event)
+    codec::put_bytes(out, 0, b"ZCZC-");
+    put_marked(out, 5, &origin);
+    put_marked(out, 9, &event);
 }
 
 // Duration, issue and sender.
-fn put_closing(out: &mut [u8], at: usize, f: Fields) -> usize
+fn put_closing(out: &mut [u8], at: usize, f: Fields)
     requires { ⌜ at + 22 ≤ length (now out) ⌝ }
-    ensures { λ r. ⌜ Puts (now (out .entry)) at (closingText f) (now (out .exit)) r ⌝ }
+    ensures { λ _. ⌜ now (out .exit) ≡ pasted (now (out .entry)) at (closingText f) ⌝ }
     ensures { λ _. ⌜ length (closingText f) ≡ 22 ⌝ }
 {
     let sender = f.sender;
-    let i = put_duration(out, at, f.duration);
-    let s = put_issue(out, i, f.day, f.hour, f.minute);
-    put_marked(out, s, &sender)
+    put_duration(out, at, f.duration);
+    put_issue(out, at + 5, f.day, f.hour, f.minute);
+    put_marked(out, at + 13, &sender);
 }
 
-fn put_all(out: &mut [u8], f: Fields, codes: &[u32]) -> usize
+fn put_all(out: &mut [u8], f: Fields, codes: &[u32])
     requires { ⌜ (now codes ≡ f .places) × (length (now codes) ≡ 31) ⌝ }
     requires { ⌜ (1 ≤ f .count) × ((f .count ≤ 31) × (35 + 7 * f .count ≤ length (now out))) ⌝ }
-    ensures { λ r. ⌜ Puts (now (out .entry)) 0 (allText f) (now (out .exit)) r ⌝ }
+    ensures { λ _. ⌜ now (out .exit) ≡ pasted (now (out .entry)) 0 (allText f) ⌝ }
 {
     let count = f.count;
-    let p = put_opening(out, f);
-    let d = put_places(out, p, codes, count);
-    put_closing(out, d, f)
+    put_opening(out, f);
+    put_places(out, 13, codes, count);
+    put_closing(out, 13 + 7 * count, f);
 }
 
 // Writes the text of the fields to the front of `out`, or says by number why not. Entries of `places` past `count` do not

@@ -1,4 +1,4 @@
--- A text that is cut off: its next line is that of the whole, if more than 300 bytes are left of it. Assumes nothing.
+-- A text that is cut off: its next line is that of the whole, if more than 300 bytes are left of it, since no longer line is taken.
 use Prim.Native.Nat.{ℕ, zero, suc, _+_, _-_, _≤_, _<_}
 use mathlib.Core.Path.{_≡_, refl, sym, ap, _∙_}
 use mathlib.Core.Logic.{_⊎_, inl, inr, ⊎-elim}
@@ -12,7 +12,7 @@ use borrow.Author.Tests.{lt-ltb, lt-leb, leb-true, eqb-true}
 use Rattle.laws.specs.Order.{Said, granted, refused, refusedAt, choose, next}
 use Rattle.laws.proofs.Tests.{and-l, and-r, le-or-lt}
 use Rattle.codec.specs.Kind.{Kind}
-use Rattle.input_lines.specs.Lines.{pieces, Form, whole, isLine}
+use Rattle.input_lines.specs.Lines.{pieces, LineForm, whole, isLine}
 use Rattle.input_lines.specs.Forms.{subKind, subLine}
 use Rattle.input_lines.specs.Next.{nextOf}
 use Rattle.input_lines.specs.LineByLine.{oneLine, eachLine}
@@ -29,7 +29,8 @@ end-cut zero s h = absurd (omega arith)
 end-cut (suc n) [] h = refl
 end-cut (suc n) (x ∷ xs) h = go (eqb x 10) (end-cut n xs) h
   where
-    go : (t : Bool) → (toEnd xs < n → toEnd (take n xs) ≡ toEnd xs) → choose t 0 (suc (toEnd xs)) < suc n → choose t 0 (suc (toEnd (take n xs))) ≡ choose t 0 (suc (toEnd xs))
+    go : (t : Bool) → (toEnd xs < n → toEnd (take n xs) ≡ toEnd xs) → choose t 0 (suc (toEnd xs)) < suc n
+        → choose t 0 (suc (toEnd (take n xs))) ≡ choose t 0 (suc (toEnd xs))
     go true f h = refl
     go false f h = ap suc (f (omega arith))
 
@@ -45,7 +46,7 @@ end-long (suc n) (x ∷ xs) h = go (eqb x 10) (end-long n xs) h
 
 -- ---- the next line
 
-module _ {A : Type 0} (f : Form A) where
+module _ {A : Type 0} (f : LineForm A) where
   bad-long : (s : List ℕ) → 300 < toEnd s → nextOf f s 0 ≡ refused 23
   unfolding isLine
   bad-long s h = next-by f s 0 ∙ simp (lt-leb (length (take (toEnd s) s)) 300 (omega (arith, length-take-le (toEnd s) s (end-le s))), and-false)
@@ -67,7 +68,9 @@ module _ {A : Type 0} (f : Form A) where
       go : (300 < toEnd s) ⊎ (toEnd s ≤ 300) → (n < length s) ⊎ (length s ≤ n) → nextOf f (take n s) 0 ≡ nextOf f s 0
       go k (inr l) = ap (λ (t : List ℕ). nextOf f t 0) (take-all n s l)
       go (inr k) (inl l) = next-part n s (omega arith) l
-      go (inl k) (inl l) = bad-long (take n s) (⊎-elim (λ a. omega (arith, end-cut n s a)) (λ a. omega (arith, end-long n s a)) (le-or-lt (toEnd s) n)) ∙ sym (bad-long s k)
+      go (inl k) (inl l) =
+          let far : 300 < toEnd (take n s) = ⊎-elim (λ a. omega (arith, end-cut n s a)) (λ a. omega (arith, end-long n s a)) (le-or-lt (toEnd s) n) in
+          bad-long (take n s) far ∙ sym (bad-long s k)
 
   -- a line has at most 301 bytes with its byte 10
   pub took-short : (s : List ℕ) (v : A) (j : ℕ) → nextOf f s 0 ≡ granted (v, j) → j ≤ 301
@@ -99,7 +102,7 @@ drop-take (suc k) zero l h = absurd (omega arith)
 drop-take (suc k) (suc m) [] h = sym (take-nil (suc m - suc k))
 drop-take (suc k) (suc m) (x ∷ xs) h = let e : m - k ≡ suc m - suc k = omega arith in drop-take k m xs (omega arith) ∙ ap (λ (n : ℕ). take n (drop k xs)) e
 
-pub one-cut : {A B : Type 0} (f : Form A) (n : ℕ) (s : List ℕ) (rest : A → List (List ℕ) → Said B) → 300 < n
+pub one-cut : {A B : Type 0} (f : LineForm A) (n : ℕ) (s : List ℕ) (rest : A → List (List ℕ) → Said B) → 300 < n
     → ((v : A) (j : ℕ) → nextOf f s 0 ≡ granted (v, j) → rest v (pieces (take (n - j) (drop j s))) ≡ rest v (pieces (drop j s)))
     → oneLine f (pieces (take n s)) rest ≡ oneLine f (pieces s) rest
 one-cut {A} {B} f n s rest h r = go (next-line f s 0)
@@ -115,8 +118,9 @@ one-cut {A} {B} f n s rest h r = go (next-line f s 0)
 -- ---- each line
 
 -- one turn: if what is left after a line that was done says the same of the cut text, so does the whole
-pub each-turn : {A S : Type 0} (f : Form A) (does : S → A → Said S) (n : ℕ) (s : S) (t : List ℕ) → 300 < n
-    → ((v : A) (j : ℕ) (s′ : S) → nextOf f t 0 ≡ granted (v, j) → does s v ≡ granted s′ → eachLine f does s′ (pieces (take (n - j) (drop j t))) ≡ eachLine f does s′ (pieces (drop j t)))
+pub each-turn : {A S : Type 0} (f : LineForm A) (does : S → A → Said S) (n : ℕ) (s : S) (t : List ℕ) → 300 < n
+    → ((v : A) (j : ℕ) (s′ : S) → nextOf f t 0 ≡ granted (v, j) → does s v ≡ granted s′
+    → eachLine f does s′ (pieces (take (n - j) (drop j t))) ≡ eachLine f does s′ (pieces (drop j t)))
     → eachLine f does s (pieces (take n t)) ≡ eachLine f does s (pieces t)
 each-turn f does n s [] l turn = ap (λ (u : List ℕ). eachLine f does s (pieces u)) (take-nil n)
 each-turn {A} {S} f does n s (x ∷ xs) l turn =

@@ -1,4 +1,4 @@
--- Where a line ends, by the tests that the code makes. Assumes nothing.
+-- Where a line ends: a byte counts one more before the end, until byte 10 or the end of the text comes.
 use Prim.Native.Nat.{ℕ, suc, _+_, _-_, _≤_, _<_}
 use mathlib.Core.Path.{_≡_, refl, sym, ap, _∙_}
 use mathlib.Core.List.{List, [], _∷_}
@@ -10,6 +10,7 @@ use lib.Seq.{drop-cons}
 use lib.Dec.{ltb, leb, eqb}
 use borrow.Author.Tests.{eq-eqb, ne-eqb, lt-ltb, le-ltb, le-leb, lt-leb, ltb-true, leb-true}
 use Rattle.laws.specs.Order.{choose}
+use Rattle.laws.proofs.Clash.{clash}
 use Rattle.input_lines.specs.Steps.{toEnd, lineOf}
 use Rattle.input_lines.specs.declared.Line.the-variants.{Ends, Broken}
 
@@ -42,7 +43,7 @@ unfolding lineOf
 line-past s at h = simp (le-ltb (toEnd (drop at s)) (length (drop at s)) (omega (arith, length-drop at s)))
 
 module _ (s : List ℕ) (at e : ℕ) (p : e ≡ at + toEnd (drop at s)) (b : at ≤ length s) where
-  pub line-none : e ≡ length s → Broken ≡ lineOf s at
+  pub line-none : length s ≤ e → Broken ≡ lineOf s at
   unfolding lineOf
   line-none h = simp (le-ltb (toEnd (drop at s)) (length (drop at s)) (omega (arith, length-drop at s)))
 
@@ -70,12 +71,13 @@ pub found : (t : List ℕ) (at e : ℕ) → lineOf t at ≡ Ends e → Found t a
 unfolding lineOf
 found t at e p = go (ltb (toEnd (drop at t)) (length (drop at t))) refl (leb (toEnd (drop at t)) 300) refl p
   where
-    go : (a : Bool) → ltb (toEnd (drop at t)) (length (drop at t)) ≡ a → (b : Bool) → leb (toEnd (drop at t)) 300 ≡ b → choose (a && b) (Ends (at + toEnd (drop at t))) Broken ≡ Ends e → Found t at e
+    go : (a : Bool) → ltb (toEnd (drop at t)) (length (drop at t)) ≡ a → (b : Bool) → leb (toEnd (drop at t)) 300 ≡ b
+        → choose (a && b) (Ends (at + toEnd (drop at t))) Broken ≡ Ends e → Found t at e
     go true p true q r =
         let z : at + toEnd (drop at t) ≡ e = cc in
         let l = ltb-true (toEnd (drop at t)) (length (drop at t)) p in
         let m = leb-true (toEnd (drop at t)) 300 q in
         let d = length-drop at t in
         record { end = omega arith; low = omega arith; inside = omega arith; short = omega arith }
-    go true p false q r = absurd (let z : _≡_ {A = ℕ} 0 1 = cc in omega arith)
-    go false p b q r = absurd (let z : _≡_ {A = ℕ} 0 1 = cc in omega arith)
+    go true p false q r = clash cc
+    go false p b q r = clash cc

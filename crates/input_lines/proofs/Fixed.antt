@@ -1,5 +1,4 @@
--- A line of a kind ends after the kind's bytes: none of them is a byte 10, so one look tells whether it can have the form. Assumes
--- nothing.
+-- A line of a kind ends after the kind's bytes: none of them is a byte 10, so one look tells whether it can have the form.
 use Prim.Native.Nat.{ℕ, zero, suc, _+_, _≤_, _<_}
 use mathlib.Core.Path.{_≡_, refl, sym, ap, _∙_}
 use mathlib.Core.List.{List, [], _∷_}
@@ -12,6 +11,7 @@ use borrow.Author.Tests.{eq-eqb, ne-eqb, lt-ltb, le-ltb, le-leb, ltb-true, eqb-t
 use Rattle.laws.specs.Order.{Said, granted, refused, choose}
 use Rattle.laws.specs.Lists.{every, same}
 use Rattle.laws.specs.Numbers.{digit}
+use Rattle.laws.proofs.Clash.{clash}
 use Rattle.laws.proofs.Tests.{and-l, and-r, within-lo}
 use Rattle.laws.proofs.Every.{every-append, same-eq}
 use Rattle.laws.specs.Text.{ascii}
@@ -45,8 +45,9 @@ module _ {A : Type 0} where
   pub of-tag : (word : List ℕ) {k : Kind A} → clean word ≡ true → Clean k → Clean (tag word k)
   of-tag word {k} c g = record {
     none = λ b h.
-        let e : take (length word) b ≡ word = same-eq (take (length word) b) word (and-l (same (take (length word) b) word) (k .allowed (drop (length word) b)) h) in
-        clean-two (length word) b (ap clean e ∙ c) (g .none (drop (length word) b) (and-r (same (take (length word) b) word) (k .allowed (drop (length word) b)) h));
+        let n = length word in
+        let e : take n b ≡ word = same-eq (take n b) word (and-l (same (take n b) word) (k .allowed (drop n b)) h) in
+        clean-two n b (ap clean e ∙ c) (g .none (drop n b) (and-r (same (take n b) word) (k .allowed (drop n b)) h));
   }
 
   pub of-two : {B : Type 0} {j : Kind A} {k : Kind B} → Clean j → Clean k → Clean (j ⊗ k)
@@ -71,7 +72,8 @@ unfolding toEnd
 end-byte [] h = absurd (omega arith)
 end-byte (x ∷ xs) h = go (eqb x 10) refl (end-byte xs) h
   where
-    go : (t : Bool) → eqb x 10 ≡ t → (toEnd xs < length xs → getD xs (toEnd xs) 0 ≡ 10) → choose t 0 (suc (toEnd xs)) < length (x ∷ xs) → getD (x ∷ xs) (choose t 0 (suc (toEnd xs))) 0 ≡ 10
+    go : (t : Bool) → eqb x 10 ≡ t → (toEnd xs < length xs → getD xs (toEnd xs) 0 ≡ 10) → choose t 0 (suc (toEnd xs)) < length (x ∷ xs)
+        → getD (x ∷ xs) (choose t 0 (suc (toEnd xs))) 0 ≡ 10
     go true e f h = eqb-true x 10 e
     go false e f h = f (omega arith)
 
@@ -88,7 +90,8 @@ module _ {A : Type 0} (k : Kind A) (g : Clean k) (short : k .width ≤ 300) (t :
   byte = getD-drop at t w 0
 
   -- a line that has the form was taken
-  has-form : at + w < length t → getD t (at + w) 0 ≡ 10 → k .allowed (take w s) ≡ true → _≡_ {A = Said (A × ℕ)} (granted (k .value (take w s), at + w + 1)) (nextOf (whole k) t at)
+  has-form : at + w < length t → getD t (at + w) 0 ≡ 10 → k .allowed (take w s) ≡ true
+      → _≡_ {A = Said (A × ℕ)} (granted (k .value (take w s), at + w + 1)) (nextOf (whole k) t at)
   unfolding isLine
   has-form l e a =
       let m : w < length s = omega (arith, length-drop at t) in
@@ -117,8 +120,9 @@ module _ {A : Type 0} (k : Kind A) (g : Clean k) (short : k .width ≤ 300) (t :
       go (malformed p) = sym p
       go (taken v j p) =
           let f = took-form v j p in
-          let b : ltb (at + w) (length t) && eqb (getD t (at + w) 0) 10 ≡ true = simp (lt-ltb (at + w) (length t) (f .0), eq-eqb (getD t (at + w) 0) 10 (f .1)) in
-          absurd (let z : _≡_ {A = Bool} true false = sym b ∙ h in let y : _≡_ {A = ℕ} 0 1 = cc in omega arith)
+          let b : ltb (at + w) (length t) && eqb (getD t (at + w) 0) 10 ≡ true =
+          simp (lt-ltb (at + w) (length t) (f .0), eq-eqb (getD t (at + w) 0) 10 (f .1)) in
+          (let z : _≡_ {A = Bool} true false = sym b ∙ h in clash cc)
 
   pub there : endsAfter t at w ≡ true → formSays (whole k) (take w s) (at + w + 1) ≡ nextOf (whole k) t at
   unfolding endsAfter formSays
@@ -130,10 +134,15 @@ module _ {A : Type 0} (k : Kind A) (g : Clean k) (short : k .width ≤ 300) (t :
       n : length (take w s) ≡ w
       n = length-take-le w s (omega (arith, l, length-drop at t))
 
-      go : (b : Bool) → k .allowed (take w s) ≡ b → NextLine (whole k) t at → choose (eqb (length (take w s)) w && k .allowed (take w s)) (granted (k .value (take w s), at + w + 1)) (refused 23) ≡ nextOf (whole k) t at
-      go true a x = simp (n, eq-eqb w w refl, a) (has-form l (eqb-true (getD t (at + w) 0) 10 (and-r (ltb (at + w) (length t)) (eqb (getD t (at + w) 0) 10) h)) a)
+      last : getD t (at + w) 0 ≡ 10
+      last = eqb-true (getD t (at + w) 0) 10 (and-r (ltb (at + w) (length t)) (eqb (getD t (at + w) 0) 10) h)
+
+      go : (b : Bool) → k .allowed (take w s) ≡ b → NextLine (whole k) t at
+          → choose (eqb (length (take w s)) w && k .allowed (take w s)) (granted (k .value (take w s), at + w + 1)) (refused 23)
+          ≡ nextOf (whole k) t at
+      go true a x = simp (n, eq-eqb w w refl, a) (has-form l last a)
       go false a (malformed p) = simp (n, eq-eqb w w refl, a) (sym p)
-      go false a (taken v j p) = absurd (let z : _≡_ {A = Bool} true false = sym (took-form v j p .2) ∙ a in let y : _≡_ {A = ℕ} 0 1 = cc in omega arith)
+      go false a (taken v j p) = (let z : _≡_ {A = Bool} true false = sym (took-form v j p .2) ∙ a in clash cc)
 
 -- the test, as the code makes it
 pub ends-not : (t : List ℕ) (at w : ℕ) → length t ≤ at + w → false ≡ endsAfter t at w
@@ -151,7 +160,9 @@ ends-in t at w h = ltb-true (at + w) (length t) (and-l (ltb (at + w) (length t))
 -- ---- the three kinds
 
 pub now-clean : Clean nowKind
-now-clean = of-two (of-tag (ascii "now=") refl (of-digits 4)) (of-two (of-tag space refl (of-digits 3)) (of-two (of-tag space refl (of-digits 2)) (of-digits 2)))
+now-clean =
+    of-two (of-tag (ascii "now=") refl (of-digits 4))
+    (of-two (of-tag space refl (of-digits 3)) (of-two (of-tag space refl (of-digits 2)) (of-digits 2)))
 
 pub client-clean : Clean clientKind
 client-clean = of-tag (ascii "client=") refl (of-digits 4)

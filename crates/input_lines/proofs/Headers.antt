@@ -1,4 +1,4 @@
--- Where a header stands in a text, by the tests that the code makes, and the bytes that stand there. Assumes nothing.
+-- A header stands from behind its word up to the byte 10 of its line: the line is the word and then the header, byte for byte.
 use Prim.Native.Nat.{ℕ, _+_, _-_, _≤_, _<_}
 use mathlib.Core.Path.{_≡_, refl, sym, ap, _∙_}
 use mathlib.Core.Logic.{_⊎_, inl, inr}
@@ -10,6 +10,7 @@ use lib.Seq.{take-all, length-take-le}
 use lib.Dec.{leb}
 use Rattle.laws.specs.Order.{Said, granted, refused, refusedAt, next}
 use Rattle.laws.specs.Lists.{same}
+use Rattle.laws.proofs.Clash.{clash}
 use Rattle.laws.proofs.Tests.{and-r, le-or-lt}
 use Rattle.laws.proofs.Every.{differ, same-eq}
 use Rattle.laws.proofs.Parts.{part-head, part-tail}
@@ -41,11 +42,14 @@ module _ (t : List ℕ) (at : ℕ) where
     header-short h =
         let n : length line ≡ e - at = length-take-le (e - at) (drop at t) (omega (arith, w .inside, length-drop at t)) in
         let k : take 7 line ≡ line = take-all 7 line (omega arith) in
-        no-header (sym (form-no headerLine line (e + 1) (ap (λ (b : List ℕ). same b headerWord) k ∙ differ line headerWord (λ q. omega arith)) ∙ next-as headerLine t at e w))
+        let no = ap (λ (b : List ℕ). same b headerWord) k ∙ differ line headerWord (λ q. omega arith) in
+        no-header (sym (form-no headerLine line (e + 1) no ∙ next-as headerLine t at e w))
 
     pub header-other : 7 ≤ e - at → same (take 7 (drop at t)) headerWord ≡ false → refused 23 ≡ headerAt t at
     unfolding headerLine
-    header-other h k = no-header (sym (form-no headerLine line (e + 1) (ap (λ (b : List ℕ). same b headerWord) (part-head t at (e - at) 7 h) ∙ k) ∙ next-as headerLine t at e w))
+    header-other h k =
+        let no = ap (λ (b : List ℕ). same b headerWord) (part-head t at (e - at) 7 h) ∙ k in
+        no-header (sym (form-no headerLine line (e + 1) no ∙ next-as headerLine t at e w))
 
     pub header-good : 7 ≤ e - at → same (take 7 (drop at t)) headerWord ≡ true → _≡_ {A = Said (ℕ × (ℕ × ℕ))} (granted (at + 7, (e, e + 1))) (headerAt t at)
     unfolding headerLine headerAt
@@ -103,8 +107,8 @@ header-stands t at from to j p = go (nextOf headerLine t at) refl p
           next = omega (arith, k .next);
           says = e ∙ (λ q. granted (v q, ei q));
         }
-    go (refused n) e r = absurd (let z : _≡_ {A = ℕ} 0 1 = cc in omega arith)
-    go (refusedAt n i) e r = absurd (let z : _≡_ {A = ℕ} 0 1 = cc in omega arith)
+    go (refused n) e r = clash cc
+    go (refusedAt n i) e r = clash cc
 
 -- no header: the next line is malformed
 pub header-none : (t : List ℕ) (at : ℕ) → headerAt t at ≡ refused 23 → nextOf headerLine t at ≡ refused 23
@@ -112,6 +116,6 @@ unfolding headerAt
 header-none t at p = go (nextOf headerLine t at) p
   where
     go : (s : Said (List ℕ × ℕ)) → next s (λ l. granted (standsAt at l)) ≡ refused 23 → s ≡ refused 23
-    go (granted l) r = absurd (let z : _≡_ {A = ℕ} 0 1 = cc in omega arith)
+    go (granted l) r = clash cc
     go (refused n) r = let z : n ≡ 23 = cc in ap refused z
-    go (refusedAt n i) r = absurd (let z : _≡_ {A = ℕ} 0 1 = cc in omega arith)
+    go (refusedAt n i) r = clash cc

@@ -1,4 +1,4 @@
--- Line by line from the top: what the pieces of a text say, by its next line. Assumes nothing.
+-- Line by line from the top: the first piece of a text is its next line, and the other pieces are those of what stands after it.
 use Prim.Native.Nat.{ℕ, _+_, _≤_, _<_}
 use mathlib.Core.Path.{_≡_, refl, sym, ap, _∙_}
 use mathlib.Core.List.{List, [], _∷_, _++_, map}
@@ -10,8 +10,9 @@ use lib.Dec.{ltb}
 use borrow.Author.Tests.{ne-eqb, ltb-true, ltb-false}
 use Rattle.laws.specs.Order.{Said, granted, refused, refusedAt, choose, next}
 use Rattle.laws.specs.Lists.{every}
+use Rattle.laws.proofs.Clash.{clash}
 use Rattle.laws.proofs.Tests.{and-l, and-r}
-use Rattle.input_lines.specs.Lines.{pieces, Form, isLine}
+use Rattle.input_lines.specs.Lines.{pieces, LineForm, isLine}
 use Rattle.input_lines.specs.Next.{nextOf}
 use Rattle.input_lines.specs.LineByLine.{oneLine, eachLine, eachDone}
 use Rattle.input_lines.specs.Steps.{toEnd}
@@ -20,17 +21,17 @@ use Rattle.input_lines.proofs.Next.{next-by, took-says}
 
 -- ---- one line
 
-one-line : {A B : Type 0} (f : Form A) (l : List ℕ) (ls : List (List ℕ)) (rest : A → List (List ℕ) → Said B) → 0 < length ls
+one-line : {A B : Type 0} (f : LineForm A) (l : List ℕ) (ls : List (List ℕ)) (rest : A → List (List ℕ) → Said B) → 0 < length ls
     → oneLine f (l ∷ ls) rest ≡ choose (isLine f l) (rest (f .value l) ls) (refused 23)
 unfolding oneLine
 one-line f l [] rest h = absurd (omega arith)
 one-line f l (m ∷ ls) rest h = refl
 
-one-open : {A B : Type 0} (f : Form A) (l : List ℕ) (rest : A → List (List ℕ) → Said B) → oneLine f (l ∷ []) rest ≡ refused 23
+one-open : {A B : Type 0} (f : LineForm A) (l : List ℕ) (rest : A → List (List ℕ) → Said B) → oneLine f (l ∷ []) rest ≡ refused 23
 unfolding oneLine
 one-open f l rest = refl
 
-module _ {A B : Type 0} (f : Form A) (t : List ℕ) (at : ℕ) (rest : A → List (List ℕ) → Said B) where
+module _ {A B : Type 0} (f : LineForm A) (t : List ℕ) (at : ℕ) (rest : A → List (List ℕ) → Said B) where
   -- it is taken, and the rest stands after it
   pub one-took : (v : A) (j : ℕ) → nextOf f t at ≡ granted (v, j) → oneLine f (pieces (drop at t)) rest ≡ rest v (pieces (drop j t))
   one-took v j p =
@@ -53,8 +54,9 @@ module _ {A B : Type 0} (f : Form A) (t : List ℕ) (at : ℕ) (rest : A → Lis
       n = toEnd s
 
       go : (a : Bool) → ltb n (length s) ≡ a → (b : Bool) → isLine f (take n s) ≡ b
-          → _≡_ {A = Said (A × ℕ)} (choose (a && b) (granted (f .value (take n s), at + n + 1)) (refused 23)) (refused 23) → oneLine f (pieces s) rest ≡ refused 23
-      go true p true q r = absurd (let z : _≡_ {A = ℕ} 0 1 = cc in omega arith)
+          → _≡_ {A = Said (A × ℕ)} (choose (a && b) (granted (f .value (take n s), at + n + 1)) (refused 23)) (refused 23)
+          → oneLine f (pieces s) rest ≡ refused 23
+      go true p true q r = clash cc
       go true p false q r =
           ap (λ (ls : List (List ℕ)). oneLine f ls rest) (pieces-line s (ltb-true n (length s) p))
           ∙ one-line f (take n s) (pieces (drop (n + 1) s)) rest (pieces-some (drop (n + 1) s))
@@ -65,7 +67,7 @@ module _ {A B : Type 0} (f : Form A) (t : List ℕ) (at : ℕ) (rest : A → Lis
 
 -- ---- each line
 
-module _ {A S : Type 0} (f : Form A) (does : S → A → Said S) where
+module _ {A S : Type 0} (f : LineForm A) (does : S → A → Said S) where
   -- one of them is done, and then the others
   abbrev pub andOthers : S → A → List (List ℕ) → Said S
   andOthers s v ls = next (does s v) (λ s′. eachLine f does s′ ls)
@@ -84,11 +86,14 @@ module _ {A S : Type 0} (f : Form A) (does : S → A → Said S) where
   each-one s t h = go (ltb (toEnd t) (length t)) refl
     where
       go : (a : Bool) → ltb (toEnd t) (length t) ≡ a → eachLine f does s (pieces t) ≡ oneLine f (pieces t) (andOthers s)
-      go true e = rw (pieces-line t (ltb-true (toEnd t) (length t) e)) (each-more s (take (toEnd t) t) (pieces (drop (toEnd t + 1) t)) (pieces-some (drop (toEnd t + 1) t)))
+      go true e =
+          let others = drop (toEnd t + 1) t in
+          rw (pieces-line t (ltb-true (toEnd t) (length t) e)) (each-more s (take (toEnd t) t) (pieces others) (pieces-some others))
       go false e = rw (pieces-open t (ltb-false (toEnd t) (length t) e)) (each-open s t h)
 
   module _ (s : S) (t : List ℕ) (at : ℕ) where
-    pub each-took : at < length t → (v : A) (j : ℕ) → nextOf f t at ≡ granted (v, j) → eachLine f does s (pieces (drop at t)) ≡ next (does s v) (λ s′. eachLine f does s′ (pieces (drop j t)))
+    pub each-took : at < length t → (v : A) (j : ℕ) → nextOf f t at ≡ granted (v, j)
+        → eachLine f does s (pieces (drop at t)) ≡ next (does s v) (λ s′. eachLine f does s′ (pieces (drop j t)))
     each-took h v j e = each-one s (drop at t) (omega (arith, length-drop at t)) ∙ one-took f t at (andOthers s) v j e
 
     pub each-bad : at < length t → nextOf f t at ≡ refused 23 → eachLine f does s (pieces (drop at t)) ≡ refused 23

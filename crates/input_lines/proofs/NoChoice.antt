@@ -1,4 +1,4 @@
--- The promises leave no choice: two answers that both meet one are equal. No call is lent any space. Assumes nothing.
+-- The promises leave no choice: an answer can be told from what it says, so two that meet one promise are equal. No call is lent space.
 use Prim.Native.Nat.{ℕ}
 use mathlib.Core.Path.{_≡_, refl, sym, ap, _∙_}
 use mathlib.Core.List.{List}
@@ -6,50 +6,50 @@ use Rattle.laws.specs.Order.{Said, granted, refused, refusedAt}
 use Rattle.input_lines.specs.Answers.{saidNow, saidClient, saidHeader, saidSub}
 use Rattle.input_lines.specs.Promise.{NowLinePromise, ClientLinePromise, HeaderLinePromise, SubLinePromise}
 use Rattle.input_lines.specs.declared.NowLine.{NowLine}
-use Rattle.input_lines.specs.declared.NowLine.the-variants as now-line
+use Rattle.input_lines.specs.declared.NowLine.the-variants.{At, NoNow}
 use Rattle.input_lines.specs.declared.ClientLine.{ClientLine}
-use Rattle.input_lines.specs.declared.ClientLine.the-variants as client-line
+use Rattle.input_lines.specs.declared.ClientLine.the-variants.{Client, NoClient}
 use Rattle.input_lines.specs.declared.HeaderLine.{HeaderLine}
-use Rattle.input_lines.specs.declared.HeaderLine.the-variants as header-line
+use Rattle.input_lines.specs.declared.HeaderLine.the-variants.{Header, NoHeader}
 use Rattle.input_lines.specs.declared.SubLine.{SubLine}
-use Rattle.input_lines.specs.declared.SubLine.the-variants as sub-line
+use Rattle.input_lines.specs.declared.SubLine.the-variants.{Sub, NoSub}
 
 -- an answer, from what it says: so two answers that say the same are equal
 abbrev nowOf : Said ((ℕ × (ℕ × (ℕ × ℕ))) × ℕ) → NowLine
-nowOf (granted ((y, (d, (h, m))), j)) = now-line.At y d h m j
-nowOf (refused n) = now-line.Malformed
-nowOf (refusedAt n i) = now-line.Malformed
+nowOf (granted ((y, (d, (h, m))), j)) = At y d h m j
+nowOf (refused n) = NoNow
+nowOf (refusedAt n i) = NoNow
 
 now-back : (r : NowLine) → nowOf (saidNow r) ≡ r
-now-back (now-line.At y d h m j) = refl
-now-back now-line.Malformed = refl
+now-back (At y d h m j) = refl
+now-back NoNow = refl
 
 abbrev clientOf : Said (ℕ × ℕ) → ClientLine
-clientOf (granted (c, j)) = client-line.Client c j
-clientOf (refused n) = client-line.Malformed
-clientOf (refusedAt n i) = client-line.Malformed
+clientOf (granted (c, j)) = Client c j
+clientOf (refused n) = NoClient
+clientOf (refusedAt n i) = NoClient
 
 client-back : (r : ClientLine) → clientOf (saidClient r) ≡ r
-client-back (client-line.Client c j) = refl
-client-back client-line.Malformed = refl
+client-back (Client c j) = refl
+client-back NoClient = refl
 
 abbrev headerOf : Said (ℕ × (ℕ × ℕ)) → HeaderLine
-headerOf (granted (from, (to, j))) = header-line.Header from to j
-headerOf (refused n) = header-line.Malformed
-headerOf (refusedAt n i) = header-line.Malformed
+headerOf (granted (from, (to, j))) = Header from to j
+headerOf (refused n) = NoHeader
+headerOf (refusedAt n i) = NoHeader
 
 header-back : (r : HeaderLine) → headerOf (saidHeader r) ≡ r
-header-back (header-line.Header from to j) = refl
-header-back header-line.Malformed = refl
+header-back (Header from to j) = refl
+header-back NoHeader = refl
 
 abbrev subOf : Said ((ℕ × (ℕ × ℕ)) × ℕ) → SubLine
-subOf (granted ((p, (c, w)), j)) = sub-line.Sub p c w j
-subOf (refused n) = sub-line.Malformed
-subOf (refusedAt n i) = sub-line.Malformed
+subOf (granted ((p, (c, w)), j)) = Sub p c w j
+subOf (refused n) = NoSub
+subOf (refusedAt n i) = NoSub
 
 sub-back : (r : SubLine) → subOf (saidSub r) ≡ r
-sub-back (sub-line.Sub p c w j) = refl
-sub-back sub-line.Malformed = refl
+sub-back (Sub p c w j) = refl
+sub-back NoSub = refl
 
 pub now-line-no-choice : {input : List ℕ} {at : ℕ} {r q : NowLine} → NowLinePromise input at r → NowLinePromise input at q → r ≡ q
 now-line-no-choice {r = r} {q = q} a b = sym (now-back r) ∙ ap nowOf (a .says ∙ sym (b .says)) ∙ now-back q

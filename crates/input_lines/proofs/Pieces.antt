@@ -1,4 +1,4 @@
--- The pieces of a text. Assumes nothing.
+-- The pieces of a text, byte by byte: a byte 10 starts a piece, and any other byte joins the first piece of what follows.
 use Prim.Native.Nat.{ℕ, suc, _+_, _≤_, _<_}
 use mathlib.Core.Path.{_≡_, refl, sym, ap, _∙_}
 use mathlib.Core.List.{List, [], _∷_, _++_}
@@ -32,8 +32,11 @@ unfolding pieces toEnd
 pieces-line [] h = absurd (omega arith)
 pieces-line (x ∷ xs) h = go (eqb x 10) refl (pieces-line xs) h
   where
-    go : (t : Bool) → eqb x 10 ≡ t → (toEnd xs < length xs → pieces xs ≡ take (toEnd xs) xs ∷ pieces (drop (toEnd xs + 1) xs)) → choose t 0 (suc (toEnd xs)) < length (x ∷ xs)
-        → choose t ([] ∷ pieces xs) (onFirst x (pieces xs)) ≡ take (choose t 0 (suc (toEnd xs))) (x ∷ xs) ∷ pieces (drop (choose t 0 (suc (toEnd xs)) + 1) (x ∷ xs))
+    go : (t : Bool) → eqb x 10 ≡ t
+        → (toEnd xs < length xs → pieces xs ≡ take (toEnd xs) xs ∷ pieces (drop (toEnd xs + 1) xs))
+        → choose t 0 (suc (toEnd xs)) < length (x ∷ xs)
+        → choose t ([] ∷ pieces xs) (onFirst x (pieces xs))
+        ≡ take (choose t 0 (suc (toEnd xs))) (x ∷ xs) ∷ pieces (drop (choose t 0 (suc (toEnd xs)) + 1) (x ∷ xs))
     go true e f h = refl
     go false e f h = ap (onFirst x) (f (omega arith)) ∙ simp add-one
 
@@ -43,7 +46,8 @@ unfolding pieces toEnd
 pieces-open [] h = refl
 pieces-open (x ∷ xs) h = go (eqb x 10) (pieces-open xs) h
   where
-    go : (t : Bool) → (length xs ≤ toEnd xs → pieces xs ≡ xs ∷ []) → length (x ∷ xs) ≤ choose t 0 (suc (toEnd xs)) → choose t ([] ∷ pieces xs) (onFirst x (pieces xs)) ≡ (x ∷ xs) ∷ []
+    go : (t : Bool) → (length xs ≤ toEnd xs → pieces xs ≡ xs ∷ []) → length (x ∷ xs) ≤ choose t 0 (suc (toEnd xs))
+        → choose t ([] ∷ pieces xs) (onFirst x (pieces xs)) ≡ (x ∷ xs) ∷ []
     go true f h = absurd (omega arith)
     go false f h = ap (onFirst x) (f (omega arith))
 

@@ -1,4 +1,4 @@
--- The sample lines of the paper, and lines with too few and too many digits. Assumes nothing.
+-- The sample lines of the paper say what it says they do, and lines with too few or too many digits have not the form: by computing.
 use Prim.Native.Nat.{ℕ}
 use mathlib.Core.Path.{_≡_, refl}
 use mathlib.Core.List.{List, []}

@@ -4,16 +4,16 @@ use mathlib.Core.List.{List, [], _∷_}
 use lib.ListN.{length}
 use lib.Dec.{eqb}
 use Rattle.laws.specs.Order.{Said, granted, refused, choose, next}
-use Rattle.input_lines.specs.Lines.{Form, isLine}
+use Rattle.input_lines.specs.Lines.{LineForm, isLine}
 
 -- one line of the form f, and then what the rest says
-unfoldable pub oneLine : {A B : Type 0} → Form A → List (List ℕ) → (A → List (List ℕ) → Said B) → Said B
+unfoldable pub oneLine : {A B : Type 0} → LineForm A → List (List ℕ) → (A → List (List ℕ) → Said B) → Said B
 oneLine f [] rest = refused 23
 oneLine f (l ∷ []) rest = refused 23
 oneLine f (l ∷ (m ∷ ls)) rest = choose (isLine f l) (rest (f .value l) (m ∷ ls)) (refused 23)
 
 -- any number of lines of the form f, each done as it is met; nothing stands after the last byte 10
-unfoldable pub eachLine : {A S : Type 0} → Form A → (S → A → Said S) → S → List (List ℕ) → Said S
+unfoldable pub eachLine : {A S : Type 0} → LineForm A → (S → A → Said S) → S → List (List ℕ) → Said S
 eachLine f does s [] = granted s
 eachLine f does s (l ∷ []) = choose (eqb (length l) 0) (granted s) (refused 23)
 eachLine f does s (l ∷ (m ∷ ls)) =

@@ -19,18 +19,18 @@ pieces [] = [] ∷ []
 pieces (x ∷ xs) = choose (eqb x 10) ([] ∷ pieces xs) (onFirst x (pieces xs))
 
 -- a form: which lines have it, and what one says
-pub record Form (A : Type 0) : Type 0 where
+pub record LineForm (A : Type 0) : Type 0 where
   pub allowed : List ℕ → Bool
   pub value : List ℕ → A
 
 -- a line that is of kind k, from its first byte to its last
-abbrev pub whole : {A : Type 0} → Kind A → Form A
+abbrev pub whole : {A : Type 0} → Kind A → LineForm A
 whole k = record { allowed = λ l. eqb (length l) (k .width) && k .allowed l; value = k .value }
 
 -- a line that is the word w and anything after it
-abbrev pub after : List ℕ → Form (List ℕ)
-after w = record { allowed = λ l. same (take (length w) l) w; value = λ l. drop (length w) l }
+abbrev pub afterWord : List ℕ → LineForm (List ℕ)
+afterWord w = record { allowed = λ l. same (take (length w) l) w; value = λ l. drop (length w) l }
 
 -- a line of the form f, with at most 300 bytes before its byte 10
-unfoldable pub isLine : {A : Type 0} → Form A → List ℕ → Bool
+unfoldable pub isLine : {A : Type 0} → LineForm A → List ℕ → Bool
 isLine f l = leb (length l) 300 && f .allowed l

@@ -8,8 +8,8 @@ use Rattle.laws.specs.Order.{Said, granted, refused, choose}
 use Rattle.laws.specs.Lists.{same}
 use Rattle.codec.specs.Promise.{numberAt}
 use Rattle.codec.specs.declared.Number.{Number}
-use Rattle.codec.specs.declared.Number.the-variants.{None}
-use Rattle.input_lines.specs.Lines.{Form}
+use Rattle.codec.specs.declared.Number.the-variants.{NoNumber}
+use Rattle.input_lines.specs.Lines.{LineForm}
 use Rattle.input_lines.specs.declared.Line.{Line}
 use Rattle.input_lines.specs.declared.Line.the-variants.{Ends, Broken}
 
@@ -31,8 +31,8 @@ endsAfter text at w = ltb (at + w) (length text) && eqb (getD text (at + w) 0) 1
 
 -- a word at index at of a line, and after it a number of w digits
 unfoldable pub taggedOf : List ℕ → ℕ → List ℕ → ℕ → Number
-taggedOf word w line at = choose (same (take (length word) (drop at line)) word) (numberAt line (at + length word) w) None
+taggedOf word w line at = choose (same (take (length word) (drop at line)) word) (numberAt line (at + length word) w) NoNumber
 
 -- what a line says by its form alone, with the index after its byte 10
-unfoldable pub formSays : {A : Type 0} → Form A → List ℕ → ℕ → Said (A × ℕ)
+unfoldable pub formSays : {A : Type 0} → LineForm A → List ℕ → ℕ → Said (A × ℕ)
 formSays f line after = choose (f .allowed line) (granted (f .value line, after)) (refused 23)

@@ -18,18 +18,18 @@ pub enum NowLine {
         minute: u32,
         next: usize,
     },
-    Malformed,
+    NoNow,
 }
 
 pub enum ClientLine {
     Client { client: u32, next: usize },
-    Malformed,
+    NoClient,
 }
 
 // The header's bytes stand from index from on, up to index to.
 pub enum HeaderLine {
     Header { from: usize, to: usize, next: usize },
-    Malformed,
+    NoHeader,
 }
 
 pub enum SubLine {
@@ -39,7 +39,7 @@ pub enum SubLine {
         wish: u32,
         next: usize,
     },
-    Malformed,
+    NoSub,
 }
 
 // Where a line ends; or it has no byte 10, or over 300 bytes before it.
@@ -99,7 +99,7 @@ fn tagged(line: &[u8], at: usize, word: &[u8], w: usize) -> Number
 {
     let e = at + word.len();
     if !codec::same(&line[at..e], word) {
-        return Number::None;
+        return Number::NoNumber;
     }
     codec::digits_at(line, e, w)
 }
@@ -109,19 +109,19 @@ fn now_of(line: &[u8], next: usize) -> NowLine
     ensures { λ r. ⌜ saidNow r ≡ formSays nowLine (now (line .entry)) next ⌝ }
 {
     if line.len() != 17 {
-        return NowLine::Malformed;
+        return NowLine::NoNow;
     }
     let Number::Is(year) = tagged(line, 0, b"now=", 4) else {
-        return NowLine::Malformed;
+        return NowLine::NoNow;
     };
     let Number::Is(day) = tagged(line, 8, b" ", 3) else {
-        return NowLine::Malformed;
+        return NowLine::NoNow;
     };
     let Number::Is(hour) = tagged(line, 12, b" ", 2) else {
-        return NowLine::Malformed;
+        return NowLine::NoNow;
     };
     let Number::Is(minute) = codec::digits_at(line, 15, 2) else {
-        return NowLine::Malformed;
+        return NowLine::NoNow;
     };
     NowLine::At {
         year,
@@ -137,10 +137,10 @@ fn client_of(line: &[u8], next: usize) -> ClientLine
     ensures { λ r. ⌜ saidClient r ≡ formSays clientLine (now (line .entry)) next ⌝ }
 {
     if line.len() != 11 {
-        return ClientLine::Malformed;
+        return ClientLine::NoClient;
     }
     let Number::Is(client) = tagged(line, 0, b"client=", 4) else {
-        return ClientLine::Malformed;
+        return ClientLine::NoClient;
     };
     ClientLine::Client { client, next }
 }
@@ -150,16 +150,16 @@ fn sub_of(line: &[u8], next: usize) -> SubLine
     ensures { λ r. ⌜ saidSub r ≡ formSays subLine (now (line .entry)) next ⌝ }
 {
     if line.len() != 18 {
-        return SubLine::Malformed;
+        return SubLine::NoSub;
     }
     let Number::Is(place) = tagged(line, 0, b"sub=", 6) else {
-        return SubLine::Malformed;
+        return SubLine::NoSub;
     };
     let Number::Is(client) = tagged(line, 10, b" ", 4) else {
-        return SubLine::Malformed;
+        return SubLine::NoSub;
     };
     let Number::Is(wish) = tagged(line, 15, b" ", 2) else {
-        return SubLine::Malformed;
+        return SubLine::NoSub;
     };
     SubLine::Sub {
         place,
@@ -172,52 +172,53 @@ fn sub_of(line: &[u8], next: usize) -> SubLine
 // A line of fixed width has its byte 10 in one place, and none before it: its form allows none. So the first three look once at
 // each byte. Only a header's end is searched for.
 
-// The next line from index at on as `now=`: year, day, hour, minute.
+// Year, day, hour and minute of the next line from index at on, if it has the form `now=2024 159 1840`, and the index after it.
 pub fn now_line(input: &[u8], at: usize) -> NowLine
     ensures { λ r. ⌜ NowLinePromise (now (input .entry)) at r ⌝ }
 {
     if !ends_after(input, at, 17) {
-        return NowLine::Malformed;
+        return NowLine::NoNow;
     }
     let e = at + 17;
     now_of(&input[at..e], e + 1)
 }
 
-// As `client=`.
+// The client of the next line, if it has the form `client=0007`, and the index after it.
 pub fn client_line(input: &[u8], at: usize) -> ClientLine
     ensures { λ r. ⌜ ClientLinePromise (now (input .entry)) at r ⌝ }
 {
     if !ends_after(input, at, 11) {
-        return ClientLine::Malformed;
+        return ClientLine::NoClient;
     }
     let e = at + 11;
     client_of(&input[at..e], e + 1)
 }
 
-// As `sub=`: place, client, wish.
+// Place, client and wish of the next line, if it has the form `sub=039051 0007 01`, and the index after it.
 pub fn sub_line(input: &[u8], at: usize) -> SubLine
     ensures { λ r. ⌜ SubLinePromise (now (input .entry)) at r ⌝ }
 {
     if !ends_after(input, at, 18) {
-        return SubLine::Malformed;
+        return SubLine::NoSub;
     }
     let e = at + 18;
     sub_of(&input[at..e], e + 1)
 }
 
-// As `header=`: where the header stands. Nothing is copied.
+// Where the header of the next line stands, if that begins `header=`: from the byte after its `=` up to its byte 10; nothing is
+// copied.
 pub fn header_line(input: &[u8], at: usize) -> HeaderLine
     ensures { λ r. ⌜ HeaderLinePromise (now (input .entry)) at r ⌝ }
 {
     let Line::Ends(e) = line_at(input, at) else {
-        return HeaderLine::Malformed;
+        return HeaderLine::NoHeader;
     };
     if e - at < 7 {
-        return HeaderLine::Malformed;
+        return HeaderLine::NoHeader;
     }
     let from = at + 7;
     if !codec::same(&input[at..from], b"header=") {
-        return HeaderLine::Malformed;
+        return HeaderLine::NoHeader;
     }
     HeaderLine::Header {
         from,

@@ -1,4 +1,4 @@
--- A test of each number below n, and the loop over it. Assumes nothing.
+-- A loop over the numbers below n keeps that all below i pass: the first that fails settles the test, and so does the end.
 use mathlib.Core.Path.{_≡_, refl, sym, subst}
 use mathlib.Core.Logic.{⊎-elim}
 use mathlib.Core.Bool.{Bool, true, false, and-false}

@@ -1,4 +1,4 @@
--- What tallies say: whether some entry passes, how many there are, and how many are kept. Assumes nothing.
+-- A tally adds 1 for each entry that passes: so some entry passes where it is not 0, and among those kept it counts who passes both tests.
 use mathlib.Core.Path.{_≡_, refl, sym, ap, _∙_}
 use mathlib.Core.Bool.{Bool, true, false, _&&_, _||_, and-true, and-false}
 use mathlib.Core.List.{List, [], _∷_, map}
@@ -45,6 +45,7 @@ module _ {A : Type 0} where
   tally-keep p q [] = refl
   tally-keep p q (x ∷ s) = by (q x) (tally-keep p q s)
     where
-      by : (b : Bool) → tally p (keep q s) ≡ tally (λ x. p x && q x) s → tally p (choose b (x ∷ keep q s) (keep q s)) ≡ one (p x && b) + tally (λ x. p x && q x) s
+      by : (b : Bool) → tally p (keep q s) ≡ tally (λ x. p x && q x) s
+          → tally p (choose b (x ∷ keep q s) (keep q s)) ≡ one (p x && b) + tally (λ x. p x && q x) s
       by true k = rw (and-true (p x)) (omega (arith, k))
       by false k = rw (and-false (p x)) (omega (arith, k))

@@ -1,4 +1,4 @@
--- Decimal digits: what is read of them is what is written, each way; and writing them from the right. Assumes nothing.
+-- Digits that are read are those that are written, each way; written from the right, the k highest are left to write.
 use Prim.Native.Nat.{ℕ, zero, suc, _+_, _-_, _*_, _/_, _%_, _^_, _≤_, _<_}
 use mathlib.Core.Path.{_≡_, refl, sym, ap, _∙_}
 use mathlib.Core.List.{List, [], _∷_, _++_}
@@ -29,7 +29,8 @@ dig-reads (suc w) b l h =
     let dx : digit x ≡ true = and-l (digit x) true (and-r (every digit (take w b)) (digit x && true) d) in
     let lo : 48 ≤ x = within-lo 48 57 x dx in
     let hi : x ≤ 57 = within-hi 48 57 x dx in
-    let ih : (decFrom 0 (take w b) < 10 ^ w) × (dig w (decFrom 0 (take w b)) ≡ take w b) = dig-reads w (take w b) t (and-l (every digit (take w b)) (digit x && true) d) in
+    let ih : (decFrom 0 (take w b) < 10 ^ w) × (dig w (decFrom 0 (take w b)) ≡ take w b) =
+    dig-reads w (take w b) t (and-l (every digit (take w b)) (digit x && true) d) in
     let v : decFrom 0 b ≡ decFrom 0 (take w b) * 10 + (x - 48) = ap (decFrom 0) e ∙ dec-snoc (take w b) 0 x in
     let q : decFrom 0 b / 10 ≡ decFrom 0 (take w b) = omega arith in
     let m : 48 + decFrom 0 b % 10 ≡ x = omega arith in
@@ -38,7 +39,8 @@ dig-reads (suc w) b l h =
 pub dig-writes : (w n : ℕ) → n < 10 ^ w → (length (dig w n) ≡ w) × (every digit (dig w n) ≡ true) × (decFrom 0 (dig w n) ≡ n)
 dig-writes zero n h = (refl, refl, omega arith)
 dig-writes (suc w) n h =
-    let ih : (length (dig w (n / 10)) ≡ w) × (every digit (dig w (n / 10)) ≡ true) × (decFrom 0 (dig w (n / 10)) ≡ n / 10) = dig-writes w (n / 10) (omega (arith, pow-suc 10 w)) in
+    let ih : (length (dig w (n / 10)) ≡ w) × (every digit (dig w (n / 10)) ≡ true) × (decFrom 0 (dig w (n / 10)) ≡ n / 10) =
+    dig-writes w (n / 10) (omega (arith, pow-suc 10 w)) in
     let dx : digit (48 + n % 10) ≡ true = within-i 48 57 (48 + n % 10) (omega arith) (omega arith) in (
       length-append (dig w (n / 10)) ((48 + n % 10) ∷ []) ∙ omega arith,
       every-append digit (dig w (n / 10)) ((48 + n % 10) ∷ []) ∙ simp (ih .1, dx),
@@ -56,7 +58,8 @@ pub record Digits (d₀ d : List ℕ) (at w n k v : ℕ) : Type 0 where
   pub len : length d ≡ length d₀
   pub same : pasted d at (dig k v) ≡ pasted d₀ at (dig w n)
 
-pub digit-turn : (d₀ d : List ℕ) (at w n k v : ℕ) → 0 < k → at + w ≤ length d₀ → Digits d₀ d at w n k v → Digits d₀ (set d (at + (k - 1)) (48 + v % 10)) at w n (k - 1) (v / 10)
+pub digit-turn : (d₀ d : List ℕ) (at w n k v : ℕ) → 0 < k → at + w ≤ length d₀ → Digits d₀ d at w n k v
+    → Digits d₀ (set d (at + (k - 1)) (48 + v % 10)) at w n (k - 1) (v / 10)
 digit-turn d₀ d at w n k v h r g =
     let e : k ≡ suc (k - 1) = omega arith in
     let l : length (dig (k - 1) (v / 10)) ≡ k - 1 = length-dig (k - 1) (v / 10) in

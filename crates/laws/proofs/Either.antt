@@ -1,4 +1,4 @@
--- Two tests that say the same, and either of two tests. Assumes nothing.
+-- Two tests are equal where each follows from the other, and where one of two holds it is this or that.
 use mathlib.Core.Path.{_≡_, refl, sym}
 use mathlib.Core.Logic.{_⊎_, inl, inr}
 use mathlib.Core.Bool.{Bool, true, false, _||_}

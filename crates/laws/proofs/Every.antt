@@ -1,8 +1,8 @@
--- A test of every entry, and two lists compared: their laws, and the loops that stop at the first entry that fails. Assumes nothing.
-use Prim.Native.Nat.{ℕ, suc, _+_, _≤_, _<_}
+-- The test of the entries that are left says what the test of all says: so the first that fails settles it, and so does the end.
+use Prim.Native.Nat.{ℕ, zero, suc, _+_, _≤_, _<_}
 use mathlib.Core.Path.{_≡_, refl, sym, ap, _∙_}
 use mathlib.Core.List.{List, [], _∷_, _++_}
-use mathlib.Core.Bool.{Bool, true, false, _&&_}
+use mathlib.Core.Bool.{Bool, true, false, _&&_, and-false}
 use native.Mathlib.Numerals.{add-one}
 use native.Mathlib.Omega.{arith}
 use lib.ListN.{length, getD, drop}
@@ -19,6 +19,12 @@ every-append p (x ∷ xs) ys = go (p x) (every-append p xs ys)
     go : (b : Bool) → every p (xs ++ ys) ≡ every p xs && every p ys → b && every p (xs ++ ys) ≡ (b && every p xs) && every p ys
     go true e = e
     go false e = refl
+
+-- one entry that fails settles it, wherever it stands
+pub every-fails : (p : ℕ → Bool) (b : List ℕ) (k : ℕ) → p (getD b k 0) ≡ false → k < length b → every p b ≡ false
+every-fails p [] k t h = absurd (omega arith)
+every-fails p (x ∷ xs) zero t h = rw t
+every-fails p (x ∷ xs) (suc k) t h = rw (every-fails p xs k t (omega arith)) (and-false (p x))
 
 -- ---- the loop: the test of those that are left says what the test of all says
 
@@ -37,7 +43,7 @@ module _ (p : ℕ → Bool) (b : List ℕ) where
   passed k h t l = record { low = omega arith; all = sym (ap (every p) (cut k h) ∙ simp t) ∙ l .all }
 
   pub failed : (k : ℕ) → k < length b → p (getD b k 0) ≡ false → Left p b k → every p b ≡ false
-  failed k h t l = sym (l .all) ∙ ap (every p) (cut k h) ∙ simp t
+  failed k h t l = every-fails p b k t h
 
   pub ended : (k : ℕ) → length b ≤ k → Left p b k → every p b ≡ true
   ended k h l =

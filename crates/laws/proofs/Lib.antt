@@ -1,3 +1,4 @@
+pub mod Clash
 pub mod Order
 pub mod Quiet
 pub mod Tests

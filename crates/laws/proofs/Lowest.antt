@@ -1,4 +1,4 @@
--- The lowest number that passes a test, and the loop that looks for it. Assumes nothing.
+-- The lowest number from i on that passes is i itself, or the lowest from i + 1 on: so a loop that looks for it goes.
 use mathlib.Core.Path.{_≡_, refl, sym, _∙_}
 use mathlib.Core.Bool.{Bool, true, false}
 use Prim.Native.Nat.{ℕ, zero, suc, _+_, _-_, _≤_, _<_}

@@ -1,8 +1,8 @@
--- What is said next, and next again. Assumes nothing.
+-- Only what is granted goes on to the next step, so steps can be grouped either way.
 use Prim.Native.Nat.{ℕ}
-use native.Mathlib.Omega.{arith}
 use mathlib.Core.Path.{_≡_, refl}
 use Rattle.laws.specs.Order.{Said, granted, refused, refusedAt, next}
+use Rattle.laws.proofs.Clash.{clash}
 
 pub next-next : {A B C : Type 0} (o : Said A) (f : A → Said B) (g : B → Said C) → next (next o f) g ≡ next o (λ a. next (f a) g)
 next-next (granted a) f g = refl
@@ -28,5 +28,5 @@ pub record First {A B : Type 0} (o : Said A) (f : A → Said B) (b : B) : Type 0
 
 pub next-first : {A B : Type 0} (o : Said A) (f : A → Said B) (b : B) → next o f ≡ granted b → First o f b
 next-first (granted a) f b e = record { value = a; given = refl; rest = e }
-next-first (refused n) f b e = absurd (let z : _≡_ {A = ℕ} 0 1 = cc in omega arith)
-next-first (refusedAt n i) f b e = absurd (let z : _≡_ {A = ℕ} 0 1 = cc in omega arith)
+next-first (refused n) f b e = clash cc
+next-first (refusedAt n i) f b e = clash cc

@@ -1,4 +1,4 @@
--- Numbers or-ed together are 0 exactly if each is. Assumes nothing.
+-- The bits that both have and the bits that either has add up to both, so two numbers or-ed together are 0 exactly if each is.
 use mathlib.Core.Path.{_≡_}
 use mathlib.Core.Logic.{⊎-elim}
 use mathlib.Core.Bool.{_&&_}

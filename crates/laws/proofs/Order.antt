@@ -1,12 +1,15 @@
--- The order of a call's numbers, over any list of rows. Assumes nothing.
-use mathlib.Core.Bool.{Bool, true, false}
+-- What a call says is what the first row that holds says, over any list of rows.
+use mathlib.Core.Bool.{Bool, true, false, _&&_}
 use mathlib.Core.List.{List, [], _∷_, _++_}
 use mathlib.Core.Path.{_≡_, refl, sym, ap, _∙_}
 use mathlib.Core.Logic.{_⊎_, inl, inr, ⊎-elim}
 use Prim.Native.Nat.{ℕ}
-use native.Mathlib.Omega.{arith}
-use Rattle.laws.specs.Order.{Said, granted, refused, refusedAt, Row, inOrder, Quiet, none, more, First, here, later, choose, isRefusal, Refusals}
+use Rattle.laws.specs.Order.{Said, granted, refused, refusedAt, choose, next, isRefusal, passes}
+use Rattle.laws.specs.Order.{Row, inOrder, Quiet, none, more, First, here, later, Refusals}
+use Rattle.laws.specs.Lists.{every}
 use Rattle.laws.specs.Space.{leaves}
+use Rattle.laws.proofs.Clash.{clash}
+use Rattle.laws.proofs.Tests.{and-l, and-r, impossible}
 
 -- the paper's sentence: what is said is said by the first row that holds, or no row holds and the last is said
 pub exactly : {A : Type 0} (rows : List (Row A)) (last : A) → First (inOrder rows last) rows ⊎ (Quiet rows × (inOrder rows last ≡ last))
@@ -47,12 +50,58 @@ pub granted-quiet : {A : Type 0} (rows : List (Row (Said A))) (v g : A) → Refu
 granted-quiet [] v g r e = none
 granted-quiet {A = A} (q ∷ rows) v g r e = by (q .holds) refl e (granted-quiet rows v g (r .1))
   where
-    by : (b : Bool) → q .holds ≡ b → choose b (q .says) (inOrder rows (granted v)) ≡ granted g → (inOrder rows (granted v) ≡ granted g → Quiet rows) → Quiet (q ∷ rows)
-    by true h e k = absurd (let z : true ≡ false = sym (r .0) ∙ ap isRefusal e in let n : _≡_ {A = ℕ} 0 1 = cc in omega arith)
+    by : (b : Bool) → q .holds ≡ b → choose b (q .says) (inOrder rows (granted v)) ≡ granted g → (inOrder rows (granted v) ≡ granted g → Quiet rows)
+        → Quiet (q ∷ rows)
+    by true h e k = (let z : true ≡ false = sym (r .0) ∙ ap isRefusal e in clash cc)
     by false h e k = more h (k e)
 
 -- a refusal writes nothing, whatever the call's effect would have been
 pub refusal-leaves : {A B : Type 0} (effect : A → B → B) (said : Said A) (d : B) → isRefusal said ≡ true → leaves effect said d ≡ d
-refusal-leaves effect (granted a) d h = absurd (let n : _≡_ {A = ℕ} 0 1 = cc in omega arith)
+refusal-leaves effect (granted a) d h = clash cc
 refusal-leaves effect (refused n) d h = refl
 refusal-leaves effect (refusedAt n i) d h = refl
+
+-- ---- the law of rows: where the number of every row passes a test, so does what is said. The rows are tried by computing: `refl`
+
+module _ (p q : ℕ → Bool) where
+  abbrev pub allPass : {A : Type 0} → List (Row (Said A)) → Bool
+  allPass rows = every (λ r. passes p q (r .says)) rows
+
+  pub passes-first : {A : Type 0} (x : Said A) (rows : List (Row (Said A))) → First x rows → allPass rows ≡ true → passes p q x ≡ true
+  passes-first x (r ∷ rows) (here h) all = and-l (passes p q (r .says)) (allPass rows) all
+  passes-first x (r ∷ rows) (later h k) all = passes-first x rows k (and-r (passes p q (r .says)) (allPass rows) all)
+
+  pub passes-rows : {A : Type 0} (rows : List (Row (Said A))) (last : Said A)
+      → allPass rows ≡ true → passes p q last ≡ true → passes p q (inOrder rows last) ≡ true
+  passes-rows rows last all end =
+      ⊎-elim (λ k. passes-first (inOrder rows last) rows k all) (λ k. rw (k .1) end) (exactly rows last)
+
+  pub passes-next : {A B : Type 0} (s : Said A) (f : A → Said B)
+      → passes p q s ≡ true → ((a : A) → passes p q (f a) ≡ true) → passes p q (next s f) ≡ true
+  passes-next (granted a) f h k = k a
+  passes-next (refused n) f h k = h
+  passes-next (refusedAt n i) f h k = h
+
+  -- a test that passes no fewer
+  pub passes-more : {A : Type 0} (r t : ℕ → Bool) → ((n : ℕ) → p n ≡ true → r n ≡ true) → ((n : ℕ) → q n ≡ true → t n ≡ true)
+      → (s : Said A) → passes p q s ≡ true → passes r t s ≡ true
+  passes-more r t f g (granted a) h = refl
+  passes-more r t f g (refused n) h = f n h
+  passes-more r t f g (refusedAt n i) h = g n h
+
+-- where no row names an index, what is said is granted, or a number that passes. Tests that pass any number, and none
+abbrev pub anyNumber : ℕ → Bool
+anyNumber n = true
+
+abbrev pub noNumber : ℕ → Bool
+noNumber n = false
+
+pub record Numbered {A : Type 0} (p : ℕ → Bool) (s : Said A) : Type 0 where
+  pub its : ℕ
+  pub fits : p its ≡ true
+  pub says : s ≡ refused its
+
+pub granted-or : (p : ℕ → Bool) (s : Said (Unit {0})) → passes p noNumber s ≡ true → (s ≡ granted tt) ⊎ Numbered p s
+granted-or p (granted u) h = inl refl
+granted-or p (refused n) h = inr (record { its = n; fits = h; says = refl })
+granted-or p (refusedAt n i) h = impossible h

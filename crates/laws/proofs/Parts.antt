@@ -1,4 +1,4 @@
--- A part of a list: its length, its entries one by one, and parts of it. Assumes nothing.
+-- A part of a list is its first entry and then a shorter part: that gives its length, its entries one by one, and parts of it.
 use Prim.Native.Nat.{ℕ, zero, suc, _+_, _≤_, _<_}
 use mathlib.Core.Path.{_≡_, refl, ap, _∙_}
 use mathlib.Core.List.{List, [], _∷_}

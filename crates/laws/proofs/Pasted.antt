@@ -1,4 +1,4 @@
--- Text pasted over lent space, piece by piece: what is left to write, pasted at its index, gives the whole. Assumes nothing.
+-- Text is pasted over lent space piece by piece: what is left to write, pasted at its index, gives the whole.
 use Prim.Native.Nat.{ℕ, suc, _+_, _≤_, _<_}
 use mathlib.Core.Path.{_≡_, refl, sym, ap, _∙_}
 use mathlib.Core.List.{List, [], _∷_, _++_, append-assoc}
@@ -30,7 +30,8 @@ module _ (d : List ℕ) (at : ℕ) where
       let p : List ℕ = take at d ++ s in
       let lp : length p ≡ at + length s = length-append (take at d) s ∙ omega (arith, length-take-le at d (omega arith)) in
       let e : take at d ++ (s ++ drop (at + length s) d) ≡ p ++ drop (at + length s) d = sym (append-assoc (take at d) s (drop (at + length s) d)) in
-      let t : take (at + length s) (take at d ++ (s ++ drop (at + length s) d)) ≡ p = ap (take (at + length s)) e ∙ take-at p (drop (at + length s) d) (at + length s) lp in
+      let t : take (at + length s) (take at d ++ (s ++ drop (at + length s) d)) ≡ p =
+      ap (take (at + length s)) e ∙ take-at p (drop (at + length s) d) (at + length s) lp in
       let q : drop (at + length s + length r) (take at d ++ (s ++ drop (at + length s) d)) ≡ drop (at + length s + length r) d =
       sym (drop-drop (length r) (at + length s) (take at d ++ (s ++ drop (at + length s) d)))
       ∙ ap (drop (length r)) (ap (drop (at + length s)) e ∙ drop-at p (drop (at + length s) d) (at + length s) lp)
@@ -76,5 +77,6 @@ done d₀ whole d at t = sym (pasted-nil d at) ∙ t .same
 
 -- ---- one after the other
 
-pub glue : (d d1 d2 : List ℕ) (at at1 : ℕ) (x y : List ℕ) → at + length x + length y ≤ length d → d1 ≡ pasted d at x → at1 ≡ at + length x → d2 ≡ pasted d1 at1 y → d2 ≡ pasted d at (x ++ y)
+pub glue : (d d1 d2 : List ℕ) (at at1 : ℕ) (x y : List ℕ) → at + length x + length y ≤ length d → d1 ≡ pasted d at x → at1 ≡ at + length x
+    → d2 ≡ pasted d1 at1 y → d2 ≡ pasted d at (x ++ y)
 glue d d1 d2 at at1 x y h p i q = q ∙ (λ e. pasted (p e) (i e) y) ∙ pasted-two d at x y h

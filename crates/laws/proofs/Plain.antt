@@ -1,4 +1,4 @@
--- How many digits a number has in plain decimal. Assumes nothing.
+-- A division by ten takes one digit away: so a number of up to 9999 has at most four.
 use Prim.Native.Nat.{ℕ, zero, suc, _+_, _/_, _≤_, _<_}
 use mathlib.Core.Path.{_≡_, refl}
 use mathlib.Core.Logic.{_⊎_, inl, inr}
@@ -17,7 +17,8 @@ size-fuel zero (suc j) n a b = simp (lt-ltb n 10 (omega arith))
 size-fuel (suc k) zero n a b = simp (lt-ltb n 10 (omega arith))
 size-fuel (suc k) (suc j) n a b = go (ltb n 10) refl (λ h. size-fuel k j (n / 10) (omega arith) (omega arith))
   where
-    go : (t : Bool) → ltb n 10 ≡ t → (9 < n → sizeBy k (n / 10) ≡ sizeBy j (n / 10)) → choose (ltb n 10) 1 (1 + sizeBy k (n / 10)) ≡ choose (ltb n 10) 1 (1 + sizeBy j (n / 10))
+    go : (t : Bool) → ltb n 10 ≡ t → (9 < n → sizeBy k (n / 10) ≡ sizeBy j (n / 10))
+        → choose (ltb n 10) 1 (1 + sizeBy k (n / 10)) ≡ choose (ltb n 10) 1 (1 + sizeBy j (n / 10))
     go true e f = simp e
     go false e f = simp (e, f (omega (arith, ltb-false n 10 e)))
 

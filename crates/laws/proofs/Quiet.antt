@@ -1,4 +1,4 @@
--- Groups of rows of which none holds: each of them is quiet. Assumes nothing.
+-- No row holds in two groups one after the other exactly where none holds in either.
 use mathlib.Core.Bool.{Bool, true, not}
 use mathlib.Core.List.{List, [], _∷_, _++_}
 use mathlib.Core.Path.{_≡_, ap}

@@ -1,4 +1,4 @@
--- The lowest number that passes a test, and a table, over one range after the other. Assumes nothing.
+-- A range splits in two: where none passes in the first, the lowest is sought in the second, and a table is the two tables.
 use mathlib.Core.Path.{_≡_, refl, sym, ap, _∙_}
 use mathlib.Core.Logic.{⊎-elim}
 use mathlib.Core.Bool.{Bool, true, false}
@@ -35,7 +35,8 @@ unfolding lowest
 lowest-passes p zero i h = absurd (omega arith)
 lowest-passes p (suc n) i h = by (p i) refl h (lowest-passes p n (i + 1))
   where
-    by : (b : Bool) → p i ≡ b → choose b i (lowest p (i + 1) n) < i + suc n → (lowest p (i + 1) n < i + 1 + n → p (lowest p (i + 1) n) ≡ true) → p (choose b i (lowest p (i + 1) n)) ≡ true
+    by : (b : Bool) → p i ≡ b → choose b i (lowest p (i + 1) n) < i + suc n → (lowest p (i + 1) n < i + 1 + n → p (lowest p (i + 1) n) ≡ true)
+        → p (choose b i (lowest p (i + 1) n)) ≡ true
     by true e l k = e
     by false e l k = k (omega arith)
 

@@ -1,4 +1,4 @@
--- A look through the rows of a constant list, and a second table made of them by a rule. Assumes nothing.
+-- A look through the rows of a constant list: at row k it is there, or the rows that are left say what these said.
 use mathlib.Core.Path.{_≡_, refl, ap}
 use mathlib.Core.Bool.{Bool, true, false, _||_}
 use mathlib.Core.List.{List, [], _∷_, map}

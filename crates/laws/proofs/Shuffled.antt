@@ -1,4 +1,4 @@
--- Two lists in which each entry stands equally often have equal tallies of every test. Assumes nothing.
+-- An entry of the one is taken out of both: so lists in which each entry stands equally often have equal tallies of every test.
 use mathlib.Core.Path.{_≡_, refl, sym, ap}
 use mathlib.Core.Bool.{Bool, true, false}
 use mathlib.Core.List.{List, [], _∷_, _++_}

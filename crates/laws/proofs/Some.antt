@@ -1,11 +1,11 @@
--- Some entry passes a test where not every entry fails it; and the loop that looks for one. Assumes nothing.
+-- Some entry passes where not every entry fails: so the loop that looks for one is the loop of `Every` on the opposite test.
 use Prim.Native.Nat.{ℕ, _+_, _≤_, _<_}
 use mathlib.Core.Path.{_≡_, refl, ap, _∙_}
 use mathlib.Core.List.{List, [], _∷_}
 use mathlib.Core.Bool.{Bool, true, false, not, _&&_, _||_}
 use lib.ListN.{length, getD}
 use Rattle.laws.specs.Lists.{some, every}
-use Rattle.laws.proofs.Every.{Left, begun as all-begun, passed as all-passed, failed, ended as all-ended}
+use Rattle.laws.proofs.Every.{Left, begun, passed, failed, ended}
 
 pub some-every : {A : Type 0} (p : A → Bool) (b : List A) → some p b ≡ not (every (λ x. not (p x)) b)
 some-every p [] = refl
@@ -20,14 +20,14 @@ abbrev pub Rest : (ℕ → Bool) → List ℕ → ℕ → Type 0
 Rest p b k = Left (λ x. not (p x)) b k
 
 module _ (p : ℕ → Bool) (b : List ℕ) where
-  pub begun : Rest p b 0
-  begun = all-begun (λ x. not (p x)) b
+  pub some-begun : Rest p b 0
+  some-begun = begun (λ x. not (p x)) b
 
-  pub passed : (k : ℕ) → k < length b → p (getD b k 0) ≡ false → Rest p b k → Rest p b (k + 1)
-  passed k h t l = all-passed (λ x. not (p x)) b k h (ap not t) l
+  pub some-passed : (k : ℕ) → k < length b → p (getD b k 0) ≡ false → Rest p b k → Rest p b (k + 1)
+  some-passed k h t l = passed (λ x. not (p x)) b k h (ap not t) l
 
   pub found : (k : ℕ) → k < length b → p (getD b k 0) ≡ true → Rest p b k → some p b ≡ true
   found k h t l = some-every p b ∙ ap not (failed (λ x. not (p x)) b k h (ap not t) l)
 
-  pub ended : (k : ℕ) → length b ≤ k → Rest p b k → some p b ≡ false
-  ended k h l = some-every p b ∙ ap not (all-ended (λ x. not (p x)) b k h l)
+  pub some-ended : (k : ℕ) → length b ≤ k → Rest p b k → some p b ≡ false
+  some-ended k h l = some-every p b ∙ ap not (ended (λ x. not (p x)) b k h l)

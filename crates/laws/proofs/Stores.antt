@@ -1,4 +1,4 @@
--- A list turned into another by one store after the other, upwards and downwards. Assumes nothing.
+-- Stores upwards leave the front of the new list and the rest of the old, and downwards the front of the old and the rest of the new.
 use mathlib.Core.Path.{_≡_, refl, sym, ap, _∙_, subst}
 use mathlib.Core.List.{List, [], _∷_, _++_, append-nil}
 use Prim.Native.Nat.{ℕ, zero, suc, _+_, _-_, _≤_, _<_}

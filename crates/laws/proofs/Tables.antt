@@ -1,4 +1,4 @@
--- A table by a rule: its length, its entries, and a constant table's rule proved once. Assumes nothing.
+-- Entry i of a table by a rule is the rule at i; a constant table is compared once with the table of its rule.
 use mathlib.Core.Path.{_≡_, refl, sym, ap, _∙_, subst}
 use mathlib.Core.Logic.{⊎-elim}
 use mathlib.Core.List.{List, [], _∷_}

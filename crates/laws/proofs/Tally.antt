@@ -1,4 +1,4 @@
--- How many entries pass a test, and which are kept. Assumes nothing.
+-- An entry adds 1 to the tally or nothing: so lists one after the other add up, and as many are kept as pass.
 use mathlib.Core.Path.{_≡_, refl, ap}
 use mathlib.Core.Bool.{Bool, true, false}
 use mathlib.Core.List.{List, [], _∷_, _++_, map}
@@ -53,6 +53,7 @@ module _ {A : Type 0} where
   keep-append f [] t = refl
   keep-append f (x ∷ s) t = by (f x) (keep-append f s t)
     where
-      by : (b : Bool) → keep f (s ++ t) ≡ keep f s ++ keep f t → choose b (x ∷ keep f (s ++ t)) (keep f (s ++ t)) ≡ choose b (x ∷ keep f s) (keep f s) ++ keep f t
+      by : (b : Bool) → keep f (s ++ t) ≡ keep f s ++ keep f t
+          → choose b (x ∷ keep f (s ++ t)) (keep f (s ++ t)) ≡ choose b (x ∷ keep f s) (keep f s) ++ keep f t
       by true k = rw k
       by false k = k

@@ -1,4 +1,4 @@
--- Tests that hold, and what they say. Assumes nothing.
+-- A test that holds says that its parts hold, and which number is below which.
 use mathlib.Core.Path.{_≡_, refl, sym, _∙_}
 use mathlib.Core.Logic.{_⊎_, inl, inr}
 use mathlib.Core.Bool.{Bool, true, false, _&&_, _||_, not}
@@ -8,9 +8,10 @@ use native.Mathlib.Omega.{arith}
 use borrow.Author.Tests.{leb-true, le-leb}
 use lib.Dec.{leb}
 use Rattle.laws.specs.Numbers.{within}
+use Rattle.laws.proofs.Clash.{clash}
 
 pub impossible : {X : Type 0} → false ≡ true → X
-impossible e = absurd (let z : _≡_ {A = ℕ} 0 1 = cc in omega arith)
+impossible e = clash cc
 
 -- nothing is both true and false
 pub no-both : {X : Type 0} (b : Bool) → b ≡ true → b ≡ false → X

@@ -1,4 +1,4 @@
--- A list written into lent space entry by entry, from its first on. Assumes nothing.
+-- A list is written into lent space from its first entry on: what is left of it, from index i, still gives the whole.
 use mathlib.Core.Path.{_≡_, refl, _∙_}
 use mathlib.Core.List.{List, [], _∷_, _++_}
 use Prim.Native.Nat.{ℕ, _+_, _≤_, _<_}

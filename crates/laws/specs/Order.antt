@@ -51,6 +51,12 @@ abbrev pub Refusals : {A : Type 0} → List (Row (Said A)) → Type 0
 Refusals [] = Unit
 Refusals (r ∷ rows) = (isRefusal (r .says) ≡ true) × Refusals rows
 
+-- what is said is granted, or its number passes a test: p where it comes without an index, q where with one
+abbrev pub passes : {A : Type 0} → (ℕ → Bool) → (ℕ → Bool) → Said A → Bool
+passes p q (granted a) = true
+passes p q (refused n) = p n
+passes p q (refusedAt n i) = q n
+
 -- what is said next, where the first is granted
 abbrev pub next : {A B : Type 0} → Said A → (A → Said B) → Said B
 next (granted a) rest = rest a

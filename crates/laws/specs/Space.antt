@@ -6,7 +6,7 @@ use lib.ListN.{length, take, drop}
 use Rattle.laws.specs.Order.{Said, granted, refused, refusedAt}
 
 -- d, with s in the place of what stood there from index at on; everything else as found
-unfoldable pub pasted : List ℕ → ℕ → List ℕ → List ℕ
+unfoldable pub pasted : {A : Type 0} → List A → ℕ → List A → List A
 pasted d at s = take at d ++ (s ++ drop (at + length s) d)
 
 -- what a call leaves in space that held d: what its effect makes of d where it was granted, and d where it was refused

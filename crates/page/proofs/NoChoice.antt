@@ -1,4 +1,4 @@
--- Two answers that meet the page's promise are equal, with what they leave; 13 writes nothing. Assumes nothing.
+-- Two answers that meet the page's promise are equal, with what they leave; 13 writes nothing.
 use mathlib.Core.Path.{_≡_}
 use mathlib.Core.Bool.{true}
 use mathlib.Core.List.{List}

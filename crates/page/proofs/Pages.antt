@@ -1,4 +1,4 @@
--- The page of an input, by its first three lines, its book and its report. Assumes nothing.
+-- The page of an input: by its first three lines, then by its book, then by its report.
 use mathlib.Core.Path.{_≡_, sym, ap, _∙_}
 use mathlib.Core.List.{List}
 use Prim.Native.Nat.{ℕ, _+_, _-_}
@@ -14,38 +14,38 @@ use Rattle.page_printing.proofs.Writing.{print-as}
 use Rattle.book_rules.specs.Rules.{empty}
 use Rattle.book_edits.specs.declared.Edited.{Edited}
 use Rattle.book_edits.specs.declared.Edited.the-variants.{Done, Refused}
-use Rattle.page.specs.Input.{adds, reportShows, inputSays}
+use Rattle.page.specs.Input.{addsLine, Shown, reportShows}
 use Rattle.page.specs.Page.{printed, pageOf}
 use Rattle.page.specs.Promise.{PagePromise}
-use Rattle.page.specs.Steps.{frontSays, FrontOf, booked}
-use Rattle.page.specs.declared.Front.{Front}
-use Rattle.page.specs.declared.Front.the-variants.{Three, Malformed}
+use Rattle.page.specs.Steps.{topSays, threeSay, TopLinesOf, booked}
+use Rattle.page.specs.declared.TopLines.{TopLines}
+use Rattle.page.specs.declared.TopLines.the-variants.{Lines, Malformed}
+use Rattle.page.specs.declared.Three.{Three}
 
--- a promise on the page's text is the page's promise
-promised : (t out : List ℕ) (r : Printed) (left text : List ℕ) → text ≡ pageOf t → PrintPromise text out r left → PagePromise t out r left
-promised t out r left text e p = let q = print-as e p in record { says = q .says; lent = q .space }
-
-module _ (t out : List ℕ) (r : Printed) (left : List ℕ) where
-  pub no-front : (f : Front) → FrontOf t f → f ≡ Malformed → PrintPromise (refusedText 23) out r left → PagePromise t out r left
+-- what the first three lines leave to say is the page
+module _ (t : List ℕ) (f : TopLines) (k : TopLinesOf t f) (out : List ℕ) (r : Printed) (left : List ℕ) where
+  promised : (g : TopLines) → f ≡ g → PrintPromise (printed (topSays t g)) out r left → PagePromise t out r left
   unfolding pageOf
-  no-front f k e p = promised t out r left (refusedText 23) (ap printed (ap (frontSays t) (sym e) ∙ k .says)) p
+  promised g e p =
+      let q = print-as (ap printed (ap (topSays t) (sym e) ∙ k .says)) p in
+      record { says = q .says; lent = q .space }
 
-  module _ (f : Front) (year day hour minute client from to : ℕ) (k : FrontOf t f) (e : f ≡ Three year day hour minute client from to)
-      (x : Edited) (book : List ℕ) (b : booked x book ≡ eachLine subLine adds empty (pieces (drop (to + 1) t))) where
-    whole : next (booked x book) (λ b. reportShows b client (take (to - from) (drop from t)) (record { year = year; day = day; hour = hour; minute = minute })) ≡ inputSays t
-    whole =
-        ap (λ (o : Said (List ℕ)). next o (λ b. reportShows b client (take (to - from) (drop from t)) (record { year = year; day = day; hour = hour; minute = minute }))) b
-        ∙ ap (frontSays t) (sym e)
-        ∙ k .says
+  pub no-front : f ≡ Malformed → PrintPromise (refusedText 23) out r left → PagePromise t out r left
+  no-front e p = promised Malformed e p
 
-    pub no-book : (n m : ℕ) → x ≡ Refused n → m ≡ n → PrintPromise (refusedText m) out r left → PagePromise t out r left
-    unfolding pageOf
-    no-book n m q z p =
-        promised t out r left (refusedText m)
-        (ap refusedText z ∙ ap printed (ap (λ (y : Edited). next (booked y book) (λ b. reportShows b client (take (to - from) (drop from t)) (record { year = year; day = day; hour = hour; minute = minute }))) (sym q) ∙ whole)) p
+  pub with-front : (l : Three) → f ≡ Lines l → PrintPromise (printed (threeSay t l)) out r left → PagePromise t out r left
+  with-front l e p = promised (Lines l) e p
 
-    pub with-book : x ≡ Done → PrintPromise (printed (reportShows book client (take (to - from) (drop from t)) (record { year = year; day = day; hour = hour; minute = minute }))) out r left → PagePromise t out r left
-    unfolding pageOf
-    with-book q p =
-        promised t out r left _
-        (ap printed (ap (λ (y : Edited). next (booked y book) (λ b. reportShows b client (take (to - from) (drop from t)) (record { year = year; day = day; hour = hour; minute = minute }))) (sym q) ∙ whole)) p
+-- the book after the `sub=` lines, or the number of the refusal
+module _ (t : List ℕ) (l : Three) (x : Edited) (book : List ℕ) (b : booked x book ≡ eachLine subLine addsLine empty (pieces (drop (l .to + 1) t))) where
+  abbrev reports : List ℕ → Said Shown
+  reports w = reportShows w (l .client) (take (l .to - l .from) (drop (l .from) t)) (l .at)
+
+  by : (y : Edited) → x ≡ y → printed (next (booked y book) reports) ≡ printed (threeSay t l)
+  by y e = ap (λ (z : Edited). printed (next (booked z book) reports)) (sym e) ∙ ap (λ (o : Said (List ℕ)). printed (next o reports)) b
+
+  pub no-book : (n : ℕ) → x ≡ Refused n → refusedText n ≡ printed (threeSay t l)
+  no-book n e = by (Refused n) e
+
+  pub with-book : x ≡ Done → printed (reports book) ≡ printed (threeSay t l)
+  with-book e = by Done e

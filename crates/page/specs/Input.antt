@@ -7,7 +7,7 @@ use Rattle.input_lines.specs.Lines.{pieces}
 use Rattle.input_lines.specs.Forms.{nowLine, clientLine, headerLine, subLine}
 use Rattle.input_lines.specs.LineByLine.{oneLine, eachLine}
 use Rattle.clock.specs.declared.Clock.{Clock}
-use Rattle.book_rules.specs.Form.{plain}
+use Rattle.book_rules.specs.Form.{form}
 use Rattle.book_rules.specs.Rules.{empty}
 use Rattle.book_rules.specs.Edits.{addSays, added}
 use Rattle.report.specs.Report.{Full, reportSays}
@@ -17,8 +17,8 @@ abbrev pub clockOf : ℕ × (ℕ × (ℕ × ℕ)) → Clock
 clockOf (year, (day, (hour, minute))) = record { year = year; day = day; hour = hour; minute = minute }
 
 -- the addition of a `sub=` line
-abbrev pub adds : List ℕ → ℕ × (ℕ × ℕ) → Said (List ℕ)
-adds book (place, (client, wish)) = next (addSays plain book place client wish) (λ u. granted (added plain place client wish book))
+abbrev pub addsLine : List ℕ → ℕ × (ℕ × ℕ) → Said (List ℕ)
+addsLine book (place, (client, wish)) = next (addSays form book place client wish) (λ u. granted (added form place client wish book))
 
 -- the program lends the report room for 4,096 pairs of words
 abbrev pub hitRoom : ℕ
@@ -37,7 +37,7 @@ linesSay lines =
     oneLine nowLine lines (λ clock lines.
     oneLine clientLine lines (λ client lines.
     oneLine headerLine lines (λ header lines.
-    next (eachLine subLine adds empty lines) (λ book.
+    next (eachLine subLine addsLine empty lines) (λ book.
     reportShows book client header (clockOf clock)))))
 
 unfoldable pub inputSays : List ℕ → Said Shown

@@ -10,8 +10,8 @@ use Rattle.input_lines.specs.Lines.{pieces, isLine}
 use Rattle.input_lines.specs.Forms.{subLine}
 use Rattle.input_lines.specs.LineByLine.{eachDone}
 use Rattle.book_rules.specs.Rules.{empty}
-use Rattle.book_rules.specs.Load.{Sub, sub}
-use Rattle.page.specs.Input.{adds}
+use Rattle.book_rules.specs.Subscription.{Sub, sub}
+use Rattle.page.specs.Input.{addsLine}
 
 -- the subscription of a `sub=` line
 abbrev pub subIn : ℕ × (ℕ × ℕ) → Sub
@@ -20,8 +20,8 @@ subIn (place, (client, wish)) = sub place client wish
 abbrev pub subsIn : List (List ℕ) → List Sub
 subsIn lines = map (λ line. subIn (subLine .value line)) lines
 
-pub record Input (text now client header : List ℕ) (subs : List (List ℕ)) : Type 0 where
+pub record GrantedInput (text now client header : List ℕ) (subs : List (List ℕ)) : Type 0 where
   pub lines : pieces text ≡ now ∷ client ∷ header ∷ (subs ++ ([] ∷ []))
   pub formed : every (isLine subLine) subs ≡ true
   pub book : List ℕ
-  pub granted-all : eachDone adds empty (map (subLine .value) subs) ≡ granted book
+  pub granted-all : eachDone addsLine empty (map (subLine .value) subs) ≡ granted book

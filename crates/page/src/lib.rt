@@ -10,22 +10,29 @@ ghost use Rattle.input_lines.specs.LineByLine.{eachLine};
 ghost use Rattle.book_rules.specs.Rules.{empty};
 ghost use Rattle.page_printing.specs.Page.{pageText};
 ghost use Rattle.page_printing.specs.Promise.{PrintPromise};
-ghost use Rattle.page.specs.Input.{adds, reportShows};
+ghost use Rattle.page.specs.Input.{addsLine, hitRoom, reportShows};
 ghost use Rattle.page.specs.Page.{printed};
 ghost use Rattle.page.specs.Promise.{PagePromise};
-ghost use Rattle.page.specs.Steps.{FrontOf, GatheredOf, booked, refusalOf};
+ghost use Rattle.page.specs.Steps.{TopLinesOf, threeSay, headerIn, GatheredOf, booked};
 use book_edits::Edited;
 use input_lines::ClientLine;
 use input_lines::HeaderLine;
 use input_lines::NowLine;
 use input_lines::SubLine;
 use page_printing::Printed;
+use report::ReportVerdict;
 use report::Summary;
-use report::Verdict;
 
-// Year, day, hour, minute, client, and where the header's bytes start and end.
-enum Front {
-    Three(u32, u32, u32, u32, u32, usize, usize),
+// The clock, the client, and where the header's bytes start and end.
+struct Three {
+    at: clock::Clock,
+    client: u32,
+    from: usize,
+    to: usize,
+}
+
+enum TopLines {
+    Lines(Three),
     Malformed,
 }
 
@@ -36,8 +43,8 @@ struct Gathered {
 }
 
 // The first three lines.
-fn three_lines(input: &[u8]) -> Front
-    ensures { λ r. ⌜ FrontOf (now (input .entry)) r ⌝ }
+fn three_lines(input: &[u8]) -> TopLines
+    ensures { λ r. ⌜ TopLinesOf (now (input .entry)) r ⌝ }
 {
     let NowLine::At {
         year,
@@ -47,19 +54,30 @@ fn three_lines(input: &[u8]) -> Front
         next,
     } = input_lines::now_line(input, 0)
     else {
-        return Front::Malformed;
+        return TopLines::Malformed;
     };
     let ClientLine::Client {
         client,
         next: third,
     } = input_lines::client_line(input, next)
     else {
-        return Front::Malformed;
+        return TopLines::Malformed;
     };
     let HeaderLine::Header { from, to, next: _ } = input_lines::header_line(input, third) else {
-        return Front::Malformed;
+        return TopLines::Malformed;
     };
-    Front::Three(year, day, hour, minute, client, from, to)
+    let at = clock::Clock {
+        year,
+        day,
+        hour,
+        minute,
+    };
+    TopLines::Lines(Three {
+        at,
+        client,
+        from,
+        to,
+    })
 }
 
 // One item's three words.
@@ -107,7 +125,7 @@ fn gather(input: &[u8], at: usize, words: &mut [u32]) -> Gathered
 // Adds the `sub=` lines from index at on to an empty book. One load builds it, so that the book is not checked at every line.
 fn add_subs(input: &[u8], at: usize, book: &mut [u32]) -> Edited
     requires { ⌜ (at ≤ length (now input)) × (now book ≡ empty) ⌝ }
-    ensures { λ r. ⌜ booked r (now (book .exit)) ≡ eachLine subLine adds empty (pieces (drop at (now (input .entry)))) ⌝ }
+    ensures { λ r. ⌜ booked r (now (book .exit)) ≡ eachLine subLine addsLine empty (pieces (drop at (now (input .entry)))) ⌝ }
 {
     let mut words = [0u32; 12291];
     let gathered = gather(input, at, &mut words);
@@ -122,16 +140,6 @@ fn add_subs(input: &[u8], at: usize, book: &mut [u32]) -> Edited
     Edited::Done
 }
 
-// The number of a refused edit.
-fn refusal_of(e: Edited) -> u32
-    ensures { λ r. ⌜ r ≡ refusalOf e ⌝ }
-{
-    match e {
-        Edited::Done => 0,
-        Edited::Refused(n) => n,
-    }
-}
-
 // Prints a granted report: its summary, and the pairs of place and wish that it wrote.
 fn show(out: &mut [u8], client: u32, s: Summary, hits: &[u32]) -> Printed
     requires { ⌜ (2 * s .hits ≤ length (now hits)) × (s .hits ≤ 4096) ⌝ }
@@ -143,17 +151,46 @@ fn show(out: &mut [u8], client: u32, s: Summary, hits: &[u32]) -> Printed
     page_printing::print_page(out, client, times, &event, s.listed, s.class, &hits[..n])
 }
 
-// The report, and what is printed of it. There is room for the hits of a full book.
+// The report, and what is printed of it, with words lent for the hits.
+fn print_report(
+    book: &[u32],
+    client: u32,
+    header: &[u8],
+    at: clock::Clock,
+    hits: &mut [u32],
+    out: &mut [u8],
+) -> Printed
+    requires { ⌜ length (now hits) ≡ hitRoom ⌝ }
+    ensures { λ r. ⌜ PrintPromise (printed (reportShows (now (book .entry)) client (now (header .entry)) at)) (now (out .entry)) r (now (out .exit)) ⌝ }
+{
+    let r = report::report(book, client, header, at, hits);
+    let verdict = r.verdict;
+    match verdict {
+        ReportVerdict::Granted => show(out, client, r.summary, hits),
+        ReportVerdict::Refused(n) => page_printing::print_refusal(out, n),
+        ReportVerdict::RefusedAt(n, _) => page_printing::print_refusal(out, n),
+    }
+}
+
+// The same, with room for the hits of a full book.
 fn finish(book: &[u32], client: u32, header: &[u8], at: clock::Clock, out: &mut [u8]) -> Printed
     ensures { λ r. ⌜ PrintPromise (printed (reportShows (now (book .entry)) client (now (header .entry)) at)) (now (out .entry)) r (now (out .exit)) ⌝ }
 {
     let mut hits = [0u32; 8192];
-    let r = report::report(book, client, header, at, &mut hits);
-    let verdict = r.verdict;
-    match verdict {
-        Verdict::Granted => show(out, client, r.summary, &hits),
-        Verdict::Refused(n) => page_printing::print_refusal(out, n),
-        Verdict::RefusedAt(n, _) => page_printing::print_refusal(out, n),
+    print_report(book, client, header, at, &mut hits, out)
+}
+
+// The page of an input whose first three lines are read: its `sub=` lines are added to an empty book, then comes the report.
+fn page_of(input: &[u8], three: Three, book: &mut [u32], out: &mut [u8]) -> Printed
+    requires { ⌜ headerIn (now input) three × (now book ≡ empty) ⌝ }
+    ensures { λ r. ⌜ PrintPromise (printed (threeSay (now (input .entry)) three)) (now (out .entry)) r (now (out .exit)) ⌝ }
+{
+    let from = three.from;
+    let to = three.to;
+    let edited = add_subs(input, to + 1, book);
+    match edited {
+        Edited::Done => finish(book, three.client, &input[from..to], three.at, out),
+        Edited::Refused(n) => page_printing::print_refusal(out, n),
     }
 }
 
@@ -162,19 +199,9 @@ pub fn page(input: &[u8], out: &mut [u8]) -> Printed
     ensures { λ r. ⌜ PagePromise (now (input .entry)) (now (out .entry)) r (now (out .exit)) ⌝ }
 {
     let front = three_lines(input);
-    let Front::Three(year, day, hour, minute, client, from, to) = front else {
+    let TopLines::Lines(three) = front else {
         return page_printing::print_refusal(out, 23);
     };
     let mut book = [0u32; 8293];
-    let edited = add_subs(input, to + 1, &mut book);
-    let Edited::Done = edited else {
-        return page_printing::print_refusal(out, refusal_of(edited));
-    };
-    let at = clock::Clock {
-        year,
-        day,
-        hour,
-        minute,
-    };
-    finish(&book, client, &input[from..to], at, out)
+    page_of(input, three, &mut book, out)
 }

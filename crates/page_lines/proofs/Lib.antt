@@ -1,3 +1,3 @@
-pub mod Each
+pub mod Room
 pub mod HitsLeft
 pub mod NoChoice

@@ -1,2 +1,2 @@
-pub mod Parts
+pub mod Lines
 pub mod Promise

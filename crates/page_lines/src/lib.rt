@@ -1,8 +1,15 @@
-// The lines of a printed page, one at a time. Each call puts the parts of its lines in turn from index at on, leaves out what does
-// not fit, and answers the index after them.
+// The lines of a printed page, one at a time: each call puts its text at index at, whole or not at all, and answers whether there is
+// room for it. It asks that first, so what its parts answer is known.
 ghost use mathlib.Core.Path.{_≡_};
-ghost use Rattle.page_lines.specs.Parts.{tagParts, numberParts, textParts, stampParts, hitParts, hitsParts};
-ghost use Rattle.page_lines.specs.Promise.{SizePromise, PartsPromise};
+ghost use mathlib.Core.List.{_∷_, [], _++_};
+ghost use Prim.Native.Nat.{_+_, _≤_};
+ghost use lib.Dec.{leb};
+ghost use lib.ListN.{length};
+ghost use Rattle.laws.specs.Numbers.{dig};
+ghost use Rattle.laws.specs.Space.{pasted};
+ghost use Rattle.codec.specs.Promise.{PutPromise};
+ghost use Rattle.page_lines.specs.Lines.{numberLine, textLine, whenText, stampLine, hitLine, hitsText};
+ghost use Rattle.page_lines.specs.Promise.{SizePromise};
 use clock::Stamp;
 
 // How many digits a number has in plain decimal.
@@ -18,58 +25,103 @@ pub fn size_of(n: usize) -> usize
     w
 }
 
-// A word, and a number of w digits.
-fn put_tag(out: &mut [u8], at: usize, word: &[u8], n: usize, w: usize) -> usize
-    ensures { λ r. ⌜ PartsPromise (now (out .entry)) at (tagParts (now (word .entry)) w n) (now (out .exit)) r ⌝ }
+// Whether a line fits at index at of so much room: a word, what it says, and the line's end. Differences, so that no sum runs over.
+fn line_fits(room: usize, at: usize, word: usize, says: usize) -> bool
+    ensures { λ r. ⌜ r ≡ leb (at + (word + (says + 1))) room ⌝ }
 {
-    let e = codec::put_bytes(out, at, word);
-    codec::put_count(out, e, n, w)
+    if room <= at {
+        return false;
+    }
+    let left = room - at - 1;
+    if left < word {
+        return false;
+    }
+    says <= left - word
+}
+
+// A word, and a number of w digits.
+fn put_tag(out: &mut [u8], at: usize, word: &[u8], n: usize, w: usize)
+    requires { ⌜ at + length (now word) + w ≤ length (now out) ⌝ }
+    ensures { λ _. ⌜ now (out .exit) ≡ pasted (now (out .entry)) at (now (word .entry) ++ dig w n) ⌝ }
+{
+    codec::put_bytes(out, at, word);
+    codec::put_count(out, at + word.len(), n, w);
 }
 
 // A line: a word, and a number of w digits.
-pub fn put_number(out: &mut [u8], at: usize, word: &[u8], n: usize, w: usize) -> usize
-    ensures { λ r. ⌜ PartsPromise (now (out .entry)) at (numberParts (now (word .entry)) w n) (now (out .exit)) r ⌝ }
+pub fn put_number(out: &mut [u8], at: usize, word: &[u8], n: usize, w: usize) -> bool
+    ensures { λ r. ⌜ PutPromise (now (out .entry)) at (numberLine (now (word .entry)) w n) r (now (out .exit)) ⌝ }
 {
-    let e = put_tag(out, at, word, n, w);
-    codec::put_byte(out, e, 10)
+    if !line_fits(out.len(), at, word.len(), w) {
+        return false;
+    }
+    put_tag(out, at, word, n, w);
+    codec::put_byte(out, at + word.len() + w, 10);
+    true
 }
 
 // A line: a word, and some bytes.
-pub fn put_text(out: &mut [u8], at: usize, word: &[u8], text: &[u8]) -> usize
-    ensures { λ r. ⌜ PartsPromise (now (out .entry)) at (textParts (now (word .entry)) (now (text .entry))) (now (out .exit)) r ⌝ }
+pub fn put_text(out: &mut [u8], at: usize, word: &[u8], text: &[u8]) -> bool
+    ensures { λ r. ⌜ PutPromise (now (out .entry)) at (textLine (now (word .entry)) (now (text .entry))) r (now (out .exit)) ⌝ }
 {
-    let e = codec::put_bytes(out, at, word);
-    let f = codec::put_bytes(out, e, text);
-    codec::put_byte(out, f, 10)
+    if !line_fits(out.len(), at, word.len(), text.len()) {
+        return false;
+    }
+    let e = at + word.len();
+    codec::put_bytes(out, at, word);
+    codec::put_bytes(out, e, text);
+    codec::put_byte(out, e + text.len(), 10);
+    true
+}
+
+// `MM-DD HH:MM` and the line's end.
+fn put_when(out: &mut [u8], at: usize, s: Stamp)
+    requires { ⌜ at + 12 ≤ length (now out) ⌝ }
+    ensures { λ _. ⌜ now (out .exit) ≡ pasted (now (out .entry)) at (whenText s ++ (10 ∷ [])) ⌝ }
+{
+    codec::put_digits(out, at, s.month, 2);
+    put_tag(out, at + 2, b"-", s.day as usize, 2);
+    put_tag(out, at + 5, b" ", s.hour as usize, 2);
+    put_number(out, at + 8, b":", s.minute as usize, 2);
 }
 
 // A line: a word, and `MM-DD HH:MM`.
-pub fn put_stamp(out: &mut [u8], at: usize, word: &[u8], s: Stamp) -> usize
-    ensures { λ r. ⌜ PartsPromise (now (out .entry)) at (stampParts (now (word .entry)) s) (now (out .exit)) r ⌝ }
+pub fn put_stamp(out: &mut [u8], at: usize, word: &[u8], s: Stamp) -> bool
+    ensures { λ r. ⌜ PutPromise (now (out .entry)) at (stampLine (now (word .entry)) s) r (now (out .exit)) ⌝ }
 {
-    let e = put_tag(out, at, word, s.month as usize, 2);
-    let f = put_tag(out, e, b"-", s.day as usize, 2);
-    let g = put_tag(out, f, b" ", s.hour as usize, 2);
-    put_number(out, g, b":", s.minute as usize, 2)
+    if !line_fits(out.len(), at, word.len(), 11) {
+        return false;
+    }
+    codec::put_bytes(out, at, word);
+    put_when(out, at + word.len(), s);
+    true
 }
 
 // A hit's line: place and wish.
-fn put_hit(out: &mut [u8], at: usize, place: u32, wish: u32) -> usize
-    ensures { λ r. ⌜ PartsPromise (now (out .entry)) at (hitParts place wish) (now (out .exit)) r ⌝ }
+fn put_hit(out: &mut [u8], at: usize, place: u32, wish: u32)
+    requires { ⌜ at + 14 ≤ length (now out) ⌝ }
+    ensures { λ _. ⌜ now (out .exit) ≡ pasted (now (out .entry)) at (hitLine place wish) ⌝ }
 {
-    let e = put_tag(out, at, b"hit=", place as usize, 6);
-    put_number(out, e, b" ", wish as usize, 2)
+    put_tag(out, at, b"hit=", place as usize, 6);
+    put_number(out, at + 10, b" ", wish as usize, 2);
 }
 
 // The lines of all hits, which are pairs of place and wish.
-pub fn put_hits(out: &mut [u8], at: usize, hits: &[u32]) -> usize
-    ensures { λ r. ⌜ PartsPromise (now (out .entry)) at (hitsParts (now (hits .entry))) (now (out .exit)) r ⌝ }
+pub fn put_hits(out: &mut [u8], at: usize, hits: &[u32]) -> bool
+    ensures { λ r. ⌜ PutPromise (now (out .entry)) at (hitsText (now (hits .entry))) r (now (out .exit)) ⌝ }
 {
+    if out.len() < at {
+        return false;
+    }
+    if (out.len() - at) / 14 < hits.len() / 2 {
+        return false;
+    }
     let mut e = at;
     let mut i: usize = 0;
     while 1 < hits.len() - i {
-        e = put_hit(out, e, hits[i], hits[i + 1]);
+        put_hit(out, e, hits[i], hits[i + 1]);
+        e += 14;
         i += 2;
     }
-    e
+    true
 }

@@ -1,11 +1,11 @@
--- The lines of hits: how many, how long, and the parts that are put. Assumes nothing.
+-- The lines of hits, by pairs of words: how many, how long, and that they are what is put.
 use Prim.Native.Nat.{ℕ, _*_, _/_}
 use mathlib.Core.Path.{_≡_, refl, ap}
 use mathlib.Core.List.{List, [], _∷_, _++_}
 use native.Mathlib.Omega.{arith}
 use lib.ListN.{length}
-use Rattle.page_lines.specs.Parts.{joined, hitParts, hitsParts}
-use Rattle.page_printing.specs.Page.{ended, hitLines}
+use Rattle.page_lines.specs.Lines.{hitsText}
+use Rattle.page_printing.specs.Page.{ended, hitLine, hitLines}
 
 -- as many as there are pairs
 pub hits-count : (hits : List ℕ) → length (hitLines hits) ≡ length hits / 2
@@ -21,9 +21,9 @@ hits-length [] = refl
 hits-length (p ∷ []) = refl
 hits-length (p ∷ (w ∷ hits)) = omega (arith, hits-length hits)
 
--- their parts joined
-pub hits-joined : (hits : List ℕ) → joined (hitsParts hits) ≡ ended (hitLines hits)
-unfolding joined hitsParts hitLines ended
-hits-joined [] = refl
-hits-joined (p ∷ []) = refl
-hits-joined (p ∷ (w ∷ hits)) = ap (λ (l : List ℕ). joined (hitParts p w) ++ l) (hits-joined hits)
+-- as they are put
+pub hits-as : (hits : List ℕ) → hitsText hits ≡ ended (hitLines hits)
+unfolding hitsText hitLines ended
+hits-as [] = refl
+hits-as (p ∷ []) = refl
+hits-as (p ∷ (w ∷ hits)) = ap (λ (l : List ℕ). ended (hitLine p w ∷ []) ++ l) (hits-as hits)

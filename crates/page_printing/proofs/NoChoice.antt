@@ -1,4 +1,4 @@
--- The promise of both calls leaves no choice, and a refusal writes nothing. Assumes nothing.
+-- The promise of both calls leaves no choice, and a refusal writes nothing.
 use Prim.Native.Nat.{ℕ}
 use mathlib.Core.Path.{_≡_, refl, sym, ap, _∙_}
 use mathlib.Core.List.{List}
@@ -25,4 +25,5 @@ pub print-no-choice : {text d d1 d2 : List ℕ} {r q : Printed} → PrintPromise
 print-no-choice {r = r} {q = q} a b = (sym (printed-back r) ∙ ap printedOf (a .says ∙ sym (b .says)) ∙ printed-back q, a .space ∙ sym (b .space))
 
 pub print-refusal-writes-nothing : {text d d′ : List ℕ} {r : Printed} → PrintPromise text d r d′ → isRefusal (saidPrinted r) ≡ true → d′ ≡ d
-print-refusal-writes-nothing {text} {d} a h = a .space ∙ refusal-leaves (λ n s. pasted s 0 text) (printSays text (length d)) d (ap isRefusal (sym (a .says)) ∙ h)
+print-refusal-writes-nothing {text} {d} a h =
+    a .space ∙ refusal-leaves (λ n s. pasted s 0 text) (printSays text (length d)) d (ap isRefusal (sym (a .says)) ∙ h)

@@ -1,4 +1,4 @@
--- A page and a refusal's line as texts: their parts, and how long they are. Assumes nothing.
+-- A page and a refusal's line as texts: their parts, and how long they are.
 use Prim.Native.Nat.{ℕ, _+_, _*_, _/_, _≤_, _<_}
 use mathlib.Core.Path.{_≡_, refl, sym, ap, _∙_}
 use mathlib.Core.Logic.{_⊎_, inl, inr}
@@ -12,11 +12,11 @@ use Rattle.laws.specs.Numbers.{dig, size}
 use Rattle.laws.proofs.Tests.{le-or-lt}
 use Rattle.laws.proofs.Decimal.{length-dig}
 use Rattle.laws.proofs.Plain.{size-small}
-use Rattle.clock.specs.declared.State.{State}
-use Rattle.clock.specs.declared.State.the-variants.{Early, Live, Expired}
+use Rattle.clock.specs.declared.Phase.{Phase}
+use Rattle.clock.specs.declared.Phase.the-variants.{Early, Live, Expired}
 use Rattle.clock.specs.declared.Times.{Times}
-use Rattle.page_printing.specs.Page.{line, yesNo, stateWord, ended, hitLines, pageLines, pageText, refusedText, pageRoom}
-use Rattle.page_printing.specs.Steps.{headLines, whatLines, hitsLine, pageLength}
+use Rattle.page_printing.specs.Page.{line, yesNo, phaseText, ended, hitLines, pageLines, pageText, refusedText, pageRoom}
+use Rattle.page_printing.specs.Steps.{headLines, whatLines, foundLines, pageLength}
 use Rattle.page_printing.proofs.Writing.{ended-append, length-line, length-lines}
 use Rattle.page_printing.proofs.Hits.{hits-count, hits-length}
 
@@ -32,48 +32,53 @@ refused-length n = length-line (line "refused=" (dig (size n) n)) ∙ omega (ari
 
 -- ---- a page
 
+pub what-length : (event : List ℕ) (listed : Bool) (class : ℕ) (phase : Phase)
+    → length (ended (whatLines event listed class phase)) ≡ 30 + length event + length (yesNo listed) + length (phaseText phase)
+what-length event listed class phase =
+    length-lines (line "event=" event) _
+    ∙ omega (
+      arith,
+      length-lines (line "listed=" (yesNo listed)) (line "class=" (dig 1 class) ∷ line "state=" (phaseText phase) ∷ []),
+      length-lines (line "class=" (dig 1 class)) (line "state=" (phaseText phase) ∷ []),
+      length-line (line "state=" (phaseText phase)),
+    )
+
 module _ (client : ℕ) (times : Times) (event : List ℕ) (listed : Bool) (class : ℕ) (hits : List ℕ) where
+  abbrev head : List (List ℕ)
+  head = headLines client (times .issued) (times .until)
+
+  abbrev what : List (List ℕ)
+  what = whatLines event listed class (times .phase)
+
   pub page-parts : (w : ℕ) → w ≡ size (length hits / 2)
-      → ended (headLines client (times .issued) (times .until)) ++ (ended (whatLines event listed class (times .state)) ++ ended (hitsLine w hits ∷ hitLines hits))
-      ≡ pageText client times event listed class hits
+      → ended head ++ (ended what ++ ended (foundLines w hits)) ≡ pageText client times event listed class hits
   unfolding pageText pageLines
   page-parts w e =
       let n : length (hitLines hits) ≡ length hits / 2 = hits-count hits in
-      ap (λ (r : List ℕ). ended (headLines client (times .issued) (times .until)) ++ r) (ended-append (whatLines event listed class (times .state)) (hitsLine w hits ∷ hitLines hits))
-      ∙ ended-append (headLines client (times .issued) (times .until)) (whatLines event listed class (times .state) ++ (hitsLine w hits ∷ hitLines hits))
-      ∙ (λ q. ended (headLines client (times .issued) (times .until) ++ (whatLines event listed class (times .state) ++ (line "hits=" (dig (e q) (sym n q)) ∷ hitLines hits))))
-      ∙ (λ q. ended (headLines client (times .issued) (times .until) ++ (whatLines event listed class (times .state) ++ (line "hits=" (dig (size (sym n q)) (length (hitLines hits))) ∷ hitLines hits))))
+      let found : List ℕ → List ℕ = λ digits. ended (head ++ (what ++ (line "hits=" digits ∷ hitLines hits))) in
+      ap (λ (r : List ℕ). ended head ++ r) (ended-append what (foundLines w hits))
+      ∙ ended-append head (what ++ foundLines w hits)
+      ∙ (λ q. found (dig (e q) (sym n q)))
+      ∙ (λ q. found (dig (size (sym n q)) (length (hitLines hits))))
 
-  head-length : length (ended (headLines client (times .issued) (times .until))) ≡ 49
+  pub head-length : length (ended head) ≡ 49
   unfolding ended
   head-length = refl
 
-  what-length : length (ended (whatLines event listed class (times .state))) ≡ 30 + length event + length (yesNo listed) + length (stateWord (times .state))
-  what-length =
-      length-lines (line "event=" event) _
-      ∙ omega (
-        arith,
-        length-lines (line "listed=" (yesNo listed)) (line "class=" (dig 1 class) ∷ line "state=" (stateWord (times .state)) ∷ []),
-        length-lines (line "class=" (dig 1 class)) (line "state=" (stateWord (times .state)) ∷ []),
-        length-line (line "state=" (stateWord (times .state))),
-      )
-
   -- 85 bytes and the words that vary, the digits of the number of hits, and 14 a hit
   pub page-length : length (pageText client times event listed class hits)
-      ≡ 85 + length event + length (yesNo listed) + length (stateWord (times .state)) + size (length hits / 2) + 14 * (length hits / 2)
+      ≡ 85 + length event + length (yesNo listed) + length (phaseText (times .phase)) + size (length hits / 2) + 14 * (length hits / 2)
   page-length =
-      let a : List ℕ = ended (headLines client (times .issued) (times .until)) in
-      let b : List ℕ = ended (whatLines event listed class (times .state)) in
       let n : ℕ = length hits / 2 in
-      let h : List ℕ = hitsLine (size n) hits in
+      let found : List ℕ = ended (foundLines (size n) hits) in
       sym (ap length (page-parts (size n) refl))
-      ∙ length-append a (b ++ ended (h ∷ hitLines hits))
+      ∙ length-append (ended head) (ended what ++ found)
       ∙ omega (
         arith,
-        length-append b (ended (h ∷ hitLines hits)),
+        length-append (ended what) found,
         head-length,
-        what-length,
-        length-lines h (hitLines hits),
+        what-length event listed class (times .phase),
+        length-lines (line "hits=" (dig (size n) n)) (hitLines hits),
         length-dig (size n) n,
         hits-length hits,
       )
@@ -81,7 +86,7 @@ module _ (client : ℕ) (times : Times) (event : List ℕ) (listed : Bool) (clas
   -- whether it fits, as the code asks it
   module _ (w room : ℕ) (ew : w ≡ size (length hits / 2)) where
     abbrev need : ℕ
-    need = pageLength listed (times .state) w (length event) (length hits / 2)
+    need = pageLength listed (times .phase) w (length event) (length hits / 2)
 
     pub page-short : (b : Bool) → b ≡ leb need room → b ≡ false → room < length (pageText client times event listed class hits)
     page-short b e h = omega (arith, leb-false need room (sym e ∙ h), page-length)
@@ -93,7 +98,7 @@ pub yes-le : (listed : Bool) → length (yesNo listed) ≤ 3
 yes-le true = omega arith
 yes-le false = omega arith
 
-pub state-le : (state : State) → length (stateWord state) ≤ 7
+pub state-le : (phase : Phase) → length (phaseText phase) ≤ 7
 state-le Early = omega arith
 state-le Live = omega arith
 state-le Expired = omega arith
@@ -103,7 +108,7 @@ state-le Expired = omega arith
 pub page-fits : (client : ℕ) (times : Times) (event : List ℕ) (listed : Bool) (class : ℕ) (hits : List ℕ)
     → length hits / 2 ≤ 4096 → length event ≡ 3 → length (pageText client times event listed class hits) ≤ pageRoom
 page-fits client times event listed class hits h e =
-    omega (arith, page-length client times event listed class hits, size-small (length hits / 2) (omega arith), yes-le listed, state-le (times .state))
+    omega (arith, page-length client times event listed class hits, size-small (length hits / 2) (omega arith), yes-le listed, state-le (times .phase))
 
 -- so does a refusal of at most four digits
 pub refusal-fits : (number : ℕ) → number ≤ 9999 → length (refusedText number) ≤ pageRoom

@@ -1,10 +1,10 @@
--- The sample page of the paper, and a refusal. Assumes nothing.
+-- The sample page of the paper, and a refusal.
 use mathlib.Core.Path.{_≡_, refl}
 use mathlib.Core.List.{[], _∷_}
 use mathlib.Core.Bool.{true}
 use Rattle.laws.specs.Numbers.{size, sizeBy}
 use Rattle.laws.specs.Text.{ascii}
-use Rattle.clock.specs.declared.State.the-variants.{Live}
+use Rattle.clock.specs.declared.Phase.the-variants.{Live}
 use Rattle.clock.specs.declared.Times.{Times}
 use Rattle.page_printing.specs.Page.{ended, hitLines, pageLines, pageText, refusedText}
 
@@ -12,7 +12,7 @@ abbrev times : Times
 times = record {
   issued = record { month = 6; day = 7; hour = 18; minute = 29 };
   until = record { month = 6; day = 7; hour = 18; minute = 59 };
-  state = Live;
+  phase = Live;
 }
 
 pub sample-page : pageText 7 times (ascii "TOR") true 1 (39051 ∷ 1 ∷ 39069 ∷ 3 ∷ [])

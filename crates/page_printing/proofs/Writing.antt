@@ -1,8 +1,8 @@
--- Writing one part after the other, and lines. Assumes nothing.
+-- Lines put one after the other: what is left to put, pasted at its index, gives the whole. And a text at the front of lent space.
 use Prim.Native.Nat.{ℕ, _+_, _≤_, _<_}
 use Prim.Native.String.{String}
 use mathlib.Core.Path.{_≡_, refl, sym, ap, _∙_}
-use mathlib.Core.Bool.{true, false}
+use mathlib.Core.Bool.{Bool, true, false}
 use mathlib.Core.List.{List, [], _∷_, _++_, append-assoc}
 use native.Mathlib.Omega.{arith}
 use lib.ListN.{length, length-append}
@@ -11,35 +11,15 @@ use borrow.Author.Tests.{lt-ltb, le-ltb}
 use Rattle.laws.specs.Order.{granted}
 use Rattle.laws.specs.Space.{pasted}
 use Rattle.laws.specs.Text.{ascii}
-use Rattle.codec.proofs.Puts.{puts-length, puts-two, puts-as}
-use Rattle.clock.specs.declared.Stamp.{Stamp}
-use Rattle.page_lines.specs.Parts.{joined, lineEnd, textParts, stampParts}
-use Rattle.page_lines.specs.Promise.{PartsPromise}
-use Rattle.page_lines.proofs.Each.{parts-fit}
-use Rattle.page_printing.specs.Page.{line, stampText, ended}
+use Rattle.laws.proofs.Pasted.{Todo, step}
+use Rattle.codec.specs.Promise.{PutPromise}
+use Rattle.codec.proofs.Puts.{put-fits}
+use Rattle.page_lines.specs.Lines.{textLine}
+use Rattle.page_printing.specs.Page.{line, ended}
 use Rattle.page_printing.specs.Promise.{printSays, saidPrinted, PrintPromise}
-use Rattle.page_printing.specs.Steps.{Writes}
+use Rattle.page_printing.specs.Steps.{Puts}
 use Rattle.page_printing.specs.declared.Printed.{Printed}
 use Rattle.page_printing.specs.declared.Printed.the-variants.{Bytes, Refused}
-
--- ---- parts
-
--- the parts that a call put
-pub writes : {d : List ℕ} {at : ℕ} {parts : List (List ℕ)} {d′ : List ℕ} {r : ℕ} → PartsPromise d at parts d′ r → Writes d at (joined parts) d′ r
-writes p = record { puts = parts-fit p }
-
-pub writes-as : {d : List ℕ} {at : ℕ} {s z d′ : List ℕ} {r : ℕ} → Writes d at s d′ r → s ≡ z → Writes d at z d′ r
-writes-as {d} {at} w e = record { puts = λ h. puts-as (w .puts (rw (← e) at h)) e }
-
--- one after the other
-pub writes-two : {d d1 d2 : List ℕ} {at e r : ℕ} {x y : List ℕ} → Writes d at x d1 e → Writes d1 e y d2 r → Writes d at (x ++ y) d2 r
-writes-two {d} {d1} {d2} {at} {e} {r} {x} {y} v w = record {
-  puts = λ h.
-      let l : length (x ++ y) ≡ length x + length y = length-append x y in
-      let p = v .puts (omega arith) in
-      let k : length d1 ≡ length d = puts-length p (omega arith) in
-      puts-two p (w .puts (omega (arith, p .next))) (omega arith);
-}
 
 -- ---- lines
 
@@ -60,18 +40,36 @@ pub length-lines : (l : List ℕ) (ls : List (List ℕ)) → length (ended (l �
 unfolding ended
 length-lines l ls = length-append l (10 ∷ ended ls) ∙ omega arith
 
--- a line of a word and what it says, of a word and a date, and the lines of hits
+-- a line as it is put
+pub line-as : (word : String) (says : List ℕ) → textLine (ascii word) says ≡ ended (line word says ∷ [])
+unfolding ended
+line-as word says = sym (append-assoc (ascii word) says (10 ∷ []))
 
-pub line-put : (word : String) {says d : List ℕ} {at : ℕ} {d′ : List ℕ} {r : ℕ} → PartsPromise d at (textParts (ascii word) says) d′ r → Writes d at (ended (line word says ∷ [])) d′ r
-unfolding joined ended
-line-put word {says} p = writes-as (writes p) (sym (append-assoc (ascii word) says lineEnd))
+pub puts-as : {d : List ℕ} {at : ℕ} {x z d′ : List ℕ} {r : ℕ} → Puts d at x d′ r → x ≡ z → Puts d at z d′ r
+puts-as {d} {at} p q = record { space = p .space ∙ ap (pasted d at) q; next = p .next ∙ ap (λ (l : List ℕ). at + length l) q }
 
-pub stamp-put : (word : String) (s : Stamp) {d : List ℕ} {at : ℕ} {d′ : List ℕ} {r : ℕ} → PartsPromise d at (stampParts (ascii word) s) d′ r → Writes d at (ended (line word (stampText s) ∷ [])) d′ r
-unfolding joined ended
-stamp-put word s p = writes-as (writes p) (sym (append-assoc (ascii word) (stampText s) lineEnd))
+-- ---- the next of the lines that are left
 
-pub lines-two : (l : List ℕ) (ls : List (List ℕ)) {d d1 d2 : List ℕ} {at e r : ℕ} → Writes d at (ended (l ∷ [])) d1 e → Writes d1 e (ended ls) d2 r → Writes d at (ended (l ∷ ls)) d2 r
-lines-two l ls v w = writes-as (writes-two v w) (ended-more l ls)
+module _ {d₀ whole d : List ℕ} {at : ℕ} (l : List ℕ) (ls : List (List ℕ)) (t : Todo d₀ whole d at (ended (l ∷ ls))) where
+  pub line-room : at + length (ended (l ∷ [])) ≤ length d
+  line-room = omega (arith, t .room, length-line l, length-lines l ls)
+
+  pub line-next : {d′ : List ℕ} {r : ℕ} → Puts d at (ended (l ∷ [])) d′ r → Todo d₀ whole d′ r (ended ls)
+  line-next p = step d₀ whole d at (ended (l ∷ ls)) t (ended (l ∷ [])) (ended ls) _ _ (sym (ended-more l ls)) (p .space) (p .next)
+
+-- by a call that answers whether there is room
+module _ {d₀ whole d : List ℕ} {at : ℕ} (word : String) (says : List ℕ) (ls : List (List ℕ)) (t : Todo d₀ whole d at (ended (line word says ∷ ls))) where
+  pub text-room : at + length (textLine (ascii word) says) ≤ length d
+  text-room = rw (line-as word says) (line-room (line word says) ls t)
+
+  pub line-put : {d′ : List ℕ} {b : Bool} → PutPromise d at (textLine (ascii word) says) b d′ → d′ ≡ pasted d at (ended (line word says ∷ []))
+  line-put p = put-fits p text-room ∙ ap (pasted d at) (line-as word says)
+
+  pub line-then : {d′ : List ℕ} {b : Bool} → PutPromise d at (textLine (ascii word) says) b d′
+      → (r : ℕ) → r ≡ at + (length (line word says) + 1) → Todo d₀ whole d′ r (ended ls)
+  line-then p r e =
+      line-next (line word says) ls t
+      (record { space = line-put p; next = e ∙ ap (λ (n : ℕ). at + n) (sym (length-line (line word says))) })
 
 -- ---- a text at the front of lent space, or 13
 
@@ -81,20 +79,19 @@ print-short text d h =
     let e : ltb (length d) (length text) ≡ true = lt-ltb (length d) (length text) h in
     record { says = simp e; space = simp e }
 
-pub print-all : {text d d′ : List ℕ} {r : ℕ} → Writes d 0 text d′ r → length text ≤ length d → PrintPromise text d (Bytes r) d′
+pub print-all : {text d d′ : List ℕ} {r : ℕ} → length text ≤ length d → Puts d 0 text d′ r → PrintPromise text d (Bytes r) d′
 unfolding printSays
-print-all {text} {d} {d′} {r} w h =
-    let p = w .puts (omega arith) in
-    let n : r ≡ length text = p .next ∙ omega arith in
+print-all {text} {d} h p =
     let e : ltb (length d) (length text) ≡ false = le-ltb (length d) (length text) h in
-    record { says = simp e (ap granted n); space = simp e (p .space) }
+    record { says = simp e (ap granted (p .next ∙ omega arith)); space = simp e (p .space) }
 
 -- ---- what callers learn of it
 
 pub print-as : {text text′ d d′ : List ℕ} {r : Printed} → text ≡ text′ → PrintPromise text d r d′ → PrintPromise text′ d r d′
 print-as e p = rw (← e) p
 
-pub print-fits : {text d d′ : List ℕ} {r : Printed} → PrintPromise text d r d′ → length text ≤ length d → (saidPrinted r ≡ granted (length text)) × (d′ ≡ pasted d 0 text)
+pub print-fits : {text d d′ : List ℕ} {r : Printed} → PrintPromise text d r d′ → length text ≤ length d
+    → (saidPrinted r ≡ granted (length text)) × (d′ ≡ pasted d 0 text)
 unfolding printSays
 print-fits {text} {d} p h =
     let e : ltb (length d) (length text) ≡ false = le-ltb (length d) (length text) h in

@@ -8,8 +8,8 @@ use Rattle.laws.specs.Numbers.{plain}
 use Rattle.laws.specs.Text.{ascii}
 use Rattle.codec.specs.Kind.{Kind, digits, _⊗_, tag}
 use Rattle.clock.specs.declared.Stamp.{Stamp}
-use Rattle.clock.specs.declared.State.{State}
-use Rattle.clock.specs.declared.State.the-variants.{Early, Live, Expired}
+use Rattle.clock.specs.declared.Phase.{Phase}
+use Rattle.clock.specs.declared.Phase.the-variants.{Early, Live, Expired}
 use Rattle.clock.specs.declared.Times.{Times}
 
 -- a line: a word, and what it says
@@ -38,10 +38,10 @@ abbrev pub yesNo : Bool → List ℕ
 yesNo true = ascii "yes"
 yesNo false = ascii "no"
 
-abbrev pub stateWord : State → List ℕ
-stateWord Early = ascii "early"
-stateWord Live = ascii "live"
-stateWord Expired = ascii "expired"
+abbrev pub phaseText : Phase → List ℕ
+phaseText Early = ascii "early"
+phaseText Live = ascii "live"
+phaseText Expired = ascii "expired"
 
 -- ---- lines
 
@@ -54,7 +54,7 @@ hitLines [] = []
 hitLines (place ∷ []) = []
 hitLines (place ∷ (wish ∷ hits)) = hitLine place wish ∷ hitLines hits
 
--- the client, issue and end, event, whether listed, class, state, number of hits (plain decimal), and each hit
+-- the client, issue and end, event, whether listed, class, phase, number of hits (plain decimal), and each hit
 unfoldable pub pageLines : ℕ → Times → List ℕ → Bool → ℕ → List ℕ → List (List ℕ)
 pageLines client times event listed class hits =
     line "client=" (digits 4 .put client)
@@ -63,7 +63,7 @@ pageLines client times event listed class hits =
     ∷ line "event=" event
     ∷ line "listed=" (yesNo listed)
     ∷ line "class=" (digits 1 .put class)
-    ∷ line "state=" (stateWord (times .state))
+    ∷ line "state=" (phaseText (times .phase))
     ∷ line "hits=" (plain (length (hitLines hits)))
     ∷ hitLines hits
 

@@ -2,13 +2,16 @@
 // is known by arithmetic before the first is.
 ghost use mathlib.Core.Path.{_≡_};
 ghost use mathlib.Core.List.{_∷_, []};
+ghost use Prim.Native.Nat.{_+_, _≤_};
 ghost use lib.Dec.{leb};
 ghost use lib.ListN.{length};
-ghost use Rattle.page_printing.specs.Page.{line, yesNo, stateWord, ended, pageText, refusedText};
+ghost use Rattle.laws.specs.Space.{pasted};
+ghost use Rattle.page_lines.specs.Lines.{textLine};
+ghost use Rattle.page_printing.specs.Page.{line, yesNo, phaseText, ended, pageText, refusedText};
 ghost use Rattle.page_printing.specs.Promise.{PrintPromise};
-ghost use Rattle.page_printing.specs.Steps.{Writes, headLines, whatLines, pageLength};
+ghost use Rattle.page_printing.specs.Steps.{Puts, headLines, whatLines, foundLines, pageLength};
+use clock::Phase;
 use clock::Stamp;
-use clock::State;
 use clock::Times;
 
 // How many bytes were printed; or 13.
@@ -17,49 +20,76 @@ pub enum Printed {
     Refused(u32),
 }
 
+// These put lines at index at, in space that has room for them, and answer the index after them.
+
+// A word, and some bytes.
+fn put_line(out: &mut [u8], at: usize, word: &[u8], says: &[u8]) -> usize
+    requires { ⌜ at + length (textLine (now word) (now says)) ≤ length (now out) ⌝ }
+    ensures { λ r. ⌜ Puts (now (out .entry)) at (textLine (now (word .entry)) (now (says .entry))) (now (out .exit)) r ⌝ }
+{
+    page_lines::put_text(out, at, word, says);
+    at + word.len() + says.len() + 1
+}
+
 fn put_listed(out: &mut [u8], at: usize, listed: bool) -> usize
-    ensures { λ r. ⌜ Writes (now (out .entry)) at (ended (line "listed=" (yesNo listed) ∷ [])) (now (out .exit)) r ⌝ }
+    requires { ⌜ at + length (ended (line "listed=" (yesNo listed) ∷ [])) ≤ length (now out) ⌝ }
+    ensures { λ r. ⌜ Puts (now (out .entry)) at (ended (line "listed=" (yesNo listed) ∷ [])) (now (out .exit)) r ⌝ }
 {
     if listed {
-        return page_lines::put_text(out, at, b"listed=", b"yes");
+        return put_line(out, at, b"listed=", b"yes");
     }
-    page_lines::put_text(out, at, b"listed=", b"no")
+    put_line(out, at, b"listed=", b"no")
 }
 
-fn put_state(out: &mut [u8], at: usize, state: State) -> usize
-    ensures { λ r. ⌜ Writes (now (out .entry)) at (ended (line "state=" (stateWord state) ∷ [])) (now (out .exit)) r ⌝ }
+fn put_phase(out: &mut [u8], at: usize, phase: Phase) -> usize
+    requires { ⌜ at + length (ended (line "state=" (phaseText phase) ∷ [])) ≤ length (now out) ⌝ }
+    ensures { λ r. ⌜ Puts (now (out .entry)) at (ended (line "state=" (phaseText phase) ∷ [])) (now (out .exit)) r ⌝ }
 {
-    match state {
-        State::Early => page_lines::put_text(out, at, b"state=", b"early"),
-        State::Live => page_lines::put_text(out, at, b"state=", b"live"),
-        State::Expired => page_lines::put_text(out, at, b"state=", b"expired"),
+    match phase {
+        Phase::Early => put_line(out, at, b"state=", b"early"),
+        Phase::Live => put_line(out, at, b"state=", b"live"),
+        Phase::Expired => put_line(out, at, b"state=", b"expired"),
     }
 }
 
-// The lines of client, issue and end, at the front.
-fn put_head(out: &mut [u8], client: u32, issued: Stamp, until: Stamp) -> usize
-    ensures { λ r. ⌜ Writes (now (out .entry)) 0 (ended (headLines client issued until)) (now (out .exit)) r ⌝ }
+// The lines of client, issue and end, at the front: 49 bytes.
+fn put_head(out: &mut [u8], client: u32, issued: Stamp, until: Stamp)
+    requires { ⌜ 49 ≤ length (now out) ⌝ }
+    ensures { λ _. ⌜ now (out .exit) ≡ pasted (now (out .entry)) 0 (ended (headLines client issued until)) ⌝ }
 {
-    let e = page_lines::put_number(out, 0, b"client=", client as usize, 4);
-    let f = page_lines::put_stamp(out, e, b"issued=", issued);
-    page_lines::put_stamp(out, f, b"until=", until)
+    page_lines::put_number(out, 0, b"client=", client as usize, 4);
+    page_lines::put_stamp(out, 12, b"issued=", issued);
+    page_lines::put_stamp(out, 31, b"until=", until);
 }
 
-// The lines of event, whether listed, class and state.
+// The lines of event, whether listed, class and phase.
 fn put_what(
     out: &mut [u8],
     at: usize,
     event: &[u8],
     listed: bool,
     class: u32,
-    state: State,
+    phase: Phase,
 ) -> usize
-    ensures { λ r. ⌜ Writes (now (out .entry)) at (ended (whatLines (now (event .entry)) listed class state)) (now (out .exit)) r ⌝ }
+    requires { ⌜ at + length (ended (whatLines (now event) listed class phase)) ≤ length (now out) ⌝ }
+    ensures { λ r. ⌜ Puts (now (out .entry)) at (ended (whatLines (now (event .entry)) listed class phase)) (now (out .exit)) r ⌝ }
 {
-    let e = page_lines::put_text(out, at, b"event=", event);
+    let e = put_line(out, at, b"event=", event);
     let f = put_listed(out, e, listed);
-    let g = page_lines::put_number(out, f, b"class=", class as usize, 1);
-    put_state(out, g, state)
+    page_lines::put_number(out, f, b"class=", class as usize, 1);
+    put_phase(out, f + 8, phase)
+}
+
+// The lines of the number of hits, in w digits, and of the hits.
+fn put_found(out: &mut [u8], at: usize, w: usize, hits: &[u32]) -> usize
+    requires { ⌜ at + length (ended (foundLines w (now hits))) ≤ length (now out) ⌝ }
+    ensures { λ r. ⌜ Puts (now (out .entry)) at (ended (foundLines w (now (hits .entry)))) (now (out .exit)) r ⌝ }
+{
+    let n = hits.len() / 2;
+    let e = at + 6 + w;
+    page_lines::put_number(out, at, b"hits=", n, w);
+    page_lines::put_hits(out, e, hits);
+    e + 14 * n
 }
 
 fn listed_len(listed: bool) -> usize
@@ -71,22 +101,22 @@ fn listed_len(listed: bool) -> usize
     2
 }
 
-fn state_len(state: State) -> usize
-    ensures { λ r. ⌜ r ≡ length (stateWord state) ⌝ }
+fn phase_len(phase: Phase) -> usize
+    ensures { λ r. ⌜ r ≡ length (phaseText phase) ⌝ }
 {
-    match state {
-        State::Early => 5,
-        State::Live => 4,
-        State::Expired => 7,
+    match phase {
+        Phase::Early => 5,
+        Phase::Live => 4,
+        Phase::Expired => 7,
     }
 }
 
 // Whether a page fits whose number of hits has w digits, whose event has so many bytes, and which has n lines of 14 bytes.
 // Differences, so that no sum runs over.
-fn has_room(room: usize, listed: bool, state: State, w: usize, event: usize, n: usize) -> bool
-    ensures { λ r. ⌜ r ≡ leb (pageLength listed state w event n) room ⌝ }
+fn has_room(room: usize, listed: bool, phase: Phase, w: usize, event: usize, n: usize) -> bool
+    ensures { λ r. ⌜ r ≡ leb (pageLength listed phase w event n) room ⌝ }
 {
-    let some = 85 + listed_len(listed) + state_len(state);
+    let some = 85 + listed_len(listed) + phase_len(phase);
     if room < some {
         return false;
     }
@@ -99,7 +129,7 @@ fn has_room(room: usize, listed: bool, state: State, w: usize, event: usize, n: 
     n <= (room - some - w - event) / 14
 }
 
-// Prints a refusal's one line, if there is room.
+// Prints a refusal's one line to the front of out, and says its length; or 13 where it does not fit, and nothing is written.
 pub fn print_refusal(out: &mut [u8], number: u32) -> Printed
     ensures { λ r. ⌜ PrintPromise (refusedText number) (now (out .entry)) r (now (out .exit)) ⌝ }
 {
@@ -108,10 +138,11 @@ pub fn print_refusal(out: &mut [u8], number: u32) -> Printed
     if out.len() < 9 + w {
         return Printed::Refused(13);
     }
-    Printed::Bytes(page_lines::put_number(out, 0, b"refused=", n, w))
+    page_lines::put_number(out, 0, b"refused=", n, w);
+    Printed::Bytes(9 + w)
 }
 
-// Prints a report's page, if there is room. Hits are pairs of place and wish.
+// Prints a report's page to the front of out, and says its length; or 13 where it does not fit, and nothing is written. Hits are pairs of place and wish.
 pub fn print_page(
     out: &mut [u8],
     client: u32,
@@ -125,14 +156,13 @@ pub fn print_page(
 {
     let issued = times.issued;
     let until = times.until;
-    let state = times.state;
+    let phase = times.phase;
     let n = hits.len() / 2;
     let w = page_lines::size_of(n);
-    if !has_room(out.len(), listed, state, w, event.len(), n) {
+    if !has_room(out.len(), listed, phase, w, event.len(), n) {
         return Printed::Refused(13);
     }
-    let e = put_head(out, client, issued, until);
-    let f = put_what(out, e, event, listed, class, state);
-    let g = page_lines::put_number(out, f, b"hits=", n, w);
-    Printed::Bytes(page_lines::put_hits(out, g, hits))
+    put_head(out, client, issued, until);
+    let e = put_what(out, 49, event, listed, class, phase);
+    Printed::Bytes(put_found(out, e, w, hits))
 }

@@ -1,4 +1,4 @@
--- Matching as the paper says it, in both directions; the law that books and reports use; the paper's cases. Assumes nothing.
+-- Matching as the paper says it, in both directions; the law that books and reports use; the paper's cases.
 use Prim.Native.Nat.{ℕ}
 use mathlib.Core.Path.{_≡_, refl}
 use mathlib.Core.Logic.{_⊎_, inl, inr}

@@ -1,4 +1,4 @@
--- Packed places match as the places do. Assumes nothing.
+-- Packed places match as the places do: the parts of a packed word are those of its place.
 use Prim.Native.Nat.{ℕ, _+_, _*_, _/_, _%_, _≤_, _<_}
 use mathlib.Core.Path.{_≡_, refl, sym, ap, _∙_}
 use mathlib.Core.Bool.{Bool, true, _&&_, _||_}
@@ -19,13 +19,15 @@ pub record Same (word : ℕ) : Type 0 where
   pub counties : packed word / 16 % 1024 ≡ county (placeOf word)
   pub parts : packed word % 16 ≡ part (placeOf word)
 
-bits : (a b d : ℕ) → b < 1000 → d < 10 → ((a * 16384 + b * 16 + d) / 16384 ≡ a) × ((a * 16384 + b * 16 + d) / 16 % 1024 ≡ b) × ((a * 16384 + b * 16 + d) % 16 ≡ d)
+bits : (a b d : ℕ) → b < 1000 → d < 10
+    → ((a * 16384 + b * 16 + d) / 16384 ≡ a) × ((a * 16384 + b * 16 + d) / 16 % 1024 ≡ b) × ((a * 16384 + b * 16 + d) % 16 ≡ d)
 bits a b d hb hd =
     let e : (a * 16384 + b * 16 + d) / 16 ≡ a * 1024 + b = omega arith in
     let f : (a * 1024 + b) % 1024 ≡ b = omega arith in
     (omega arith, rw (e, f), omega arith)
 
-digits : (a b d : ℕ) → a < 100 → b < 1000 → (state (d * 100000 + a * 1000 + b) ≡ a) × (county (d * 100000 + a * 1000 + b) ≡ b) × (part (d * 100000 + a * 1000 + b) ≡ d)
+digits : (a b d : ℕ) → a < 100 → b < 1000
+    → (state (d * 100000 + a * 1000 + b) ≡ a) × (county (d * 100000 + a * 1000 + b) ≡ b) × (part (d * 100000 + a * 1000 + b) ≡ d)
 digits a b d ha hb =
     let e : (d * 100000 + a * 1000 + b) / 1000 ≡ d * 100 + a = omega arith in
     let f : (d * 100 + a) % 100 ≡ a = omega arith in
@@ -51,11 +53,13 @@ word-small : (place : ℕ) → place < 1000000 → firstWord place < 1000000
 unfolding firstWord
 word-small p h = omega arith
 
-pub packed-match-place : (word place : ℕ) → word < 1000000 → place < 1000000 → packedMatch (packed word) (packedPlace place) ≡ matches (placeOf word) place
+pub packed-match-place : (word place : ℕ) → word < 1000000 → place < 1000000
+    → packedMatch (packed word) (packedPlace place) ≡ matches (placeOf word) place
 unfolding packedPlace
 packed-match-place v p hv hp = packed-match v (firstWord p) hv (word-small p hp) ∙ ap (matches (placeOf v)) (place-back p (omega arith))
 
-pub packed-some : (word : ℕ) (places : List ℕ) → word < 1000000 → every (λ p. ltb p 1000000) places ≡ true → packedMatchSome (packed word) (map packedPlace places) ≡ matchesSome (placeOf word) places
+pub packed-some : (word : ℕ) (places : List ℕ) → word < 1000000 → every (λ p. ltb p 1000000) places ≡ true
+    → packedMatchSome (packed word) (map packedPlace places) ≡ matchesSome (placeOf word) places
 unfolding packedMatchSome matchesSome
 packed-some v [] h e = refl
 packed-some v (p ∷ places) h e =

@@ -17,17 +17,19 @@ fn meets(a: u32, b: u32) -> bool
     b == 0
 }
 
-// Whether a watched place and a place of a header match.
+// Whether a watched place and a place of a header match. The front PSS of PSSCCC is divided off once, for all three tests.
 pub fn matches(watched: u32, sent: u32) -> bool
     ensures { λ r. ⌜ MatchesPromise watched sent r ⌝ }
 {
-    if watched / 1000 % 100 != sent / 1000 % 100 {
+    let watched_front = watched / 1000;
+    let sent_front = sent / 1000;
+    if watched_front % 100 != sent_front % 100 {
         return false;
     }
-    if !meets(watched % 1000, sent % 1000) {
+    if !meets(watched - watched_front * 1000, sent - sent_front * 1000) {
         return false;
     }
-    meets(watched / 100000, sent / 100000)
+    meets(watched_front / 100, sent_front / 100)
 }
 
 // Whether a watched place matches at least one place of a header. One look at each, up to the first that matches.
@@ -44,21 +46,21 @@ pub fn matches_some(watched: u32, sent: &[u32]) -> bool
     false
 }
 
-// The first word of a place's records.
+// The first word of a place's records: SS × 10,000 + CCC × 10 + P.
 pub fn first_word(place: u32) -> u32
     ensures { λ r. ⌜ FirstWordPromise place r ⌝ }
 {
     place / 1000 % 100 * 10000 + place % 1000 * 10 + place / 100000
 }
 
-// The place of a first word.
+// The place code of a first word.
 pub fn place_of(word: u32) -> u32
     ensures { λ r. ⌜ PlaceOfPromise word r ⌝ }
 {
     word % 10 * 100000 + word / 10000 * 1000 + word / 10 % 1000
 }
 
-// Whether a book would not take the place.
+// Whether a book would not take the place: it is over 999,999, or SS is 00.
 pub fn bad_place(place: u32) -> bool
     ensures { λ r. ⌜ BadPlacePromise place r ⌝ }
 {

@@ -1,4 +1,4 @@
--- What is kept of some subscriptions: each as often as it stands, and one client's in place order. Assumes nothing.
+-- What is kept of some subscriptions: each as often as it stands, and one client's in place order.
 use mathlib.Core.Path.{_≡_, refl, sym, ap, _∙_}
 use mathlib.Core.Bool.{Bool, true, false, _&&_}
 use mathlib.Core.List.{List, [], _∷_}
@@ -11,8 +11,7 @@ use Rattle.laws.proofs.Tests.{and-l, and-r, and-i}
 use Rattle.laws.proofs.Counting.{tally-keep}
 use Rattle.place.specs.FirstWord.{firstWord}
 use Rattle.place.proofs.Words.{word-low}
-use Rattle.book_rules.specs.Load.{Sub}
-use Rattle.book_rules.specs.Afresh.{sameSub, times}
+use Rattle.book_rules.specs.Subscription.{Sub, sameSub, howOften}
 use Rattle.book_history.specs.Members.{rankSub, Rise}
 use Rattle.book_history.proofs.Same.{same-eq}
 use Rattle.report.specs.Hits.{isOf}
@@ -36,8 +35,8 @@ tally-one f x (y ∷ s) = by (sameSub x y) refl (f x) refl (tally-one f x s)
     by false p true q k = rw (k, q)
     by false p false q k = rw (k, q)
 
-pub times-kept : (f : Sub → Bool) (x : Sub) (s : List Sub) → times x (keep f s) ≡ choose (f x) (times x s) 0
-unfolding times
+pub times-kept : (f : Sub → Bool) (x : Sub) (s : List Sub) → howOften x (keep f s) ≡ choose (f x) (howOften x s) 0
+unfolding howOften
 times-kept f x s = tally-keep (sameSub x) f s ∙ tally-one f x s
 
 -- ---- every one that is kept passes what follows from the test

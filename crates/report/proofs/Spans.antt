@@ -1,4 +1,4 @@
--- The records of a book one after the other: how many are hits, and the words of the hits. Assumes nothing.
+-- The records of a book one after the other: one more adds itself to the count of hits, and its pair to their words, if it is one.
 use mathlib.Core.Path.{_≡_, refl, sym, ap, _∙_}
 use mathlib.Core.Logic.{⊎-elim}
 use mathlib.Core.Bool.{Bool, true, false}
@@ -14,12 +14,12 @@ use Rattle.laws.specs.Space.{pasted}
 use Rattle.laws.proofs.Tally.{tally-append, tally-le, tally-more, length-keep, keep-append}
 use Rattle.laws.proofs.Tables.{table-ext, length-table}
 use Rattle.laws.proofs.Pasted.{pasted-two, pasted-nil}
-use Rattle.book_rules.specs.Form.{plain}
+use Rattle.book_rules.specs.Form.{form}
 use Rattle.book_rules.specs.Rules.{Rec, recAt, recs, total}
-use Rattle.book_rules.specs.Load.{Sub}
+use Rattle.book_rules.specs.Subscription.{Sub}
 use Rattle.book_rules.specs.Afresh.{subOf}
 use Rattle.report.specs.Hits.{pairs}
-use Rattle.report.specs.Steps.{hitSubs, pair, span, hitWords, Wrote}
+use Rattle.report.specs.Steps.{hitSubs, pair, span, hitWords, WroteHits}
 
 -- ---- pairs of words
 
@@ -78,14 +78,19 @@ module _ (k : Rec → Bool) where
   pub words-append : (s t : List Rec) → hitWords k (s ++ t) ≡ hitWords k s ++ hitWords k t
   unfolding hitWords
   words-append s t =
-      ap (λ (l : List Rec). pairs (map (subOf plain) l)) (keep-append k s t)
-      ∙ ap pairs (map-append (subOf plain) (keep k s) (keep k t))
-      ∙ pairs-append (map (subOf plain) (keep k s)) (map (subOf plain) (keep k t))
+      ap (λ (l : List Rec). pairs (map (subOf form) l)) (keep-append k s t)
+      ∙ ap pairs (map-append (subOf form) (keep k s) (keep k t))
+      ∙ pairs-append (map (subOf form) (keep k s)) (map (subOf form) (keep k t))
 
   pub words-length : (s : List Rec) → length (hitWords k s) ≡ 2 * tally k s
   unfolding hitWords
   words-length s =
-      length-pairs (map (subOf plain) (keep k s)) ∙ ap (λ (n : ℕ). 2 * n) (length-map (keep k s) (subOf plain) ∙ length-keep k s)
+      length-pairs (map (subOf form) (keep k s)) ∙ ap (λ (n : ℕ). 2 * n) (length-map (keep k s) (subOf form) ∙ length-keep k s)
+
+  -- another test that says the same of a record
+  pub words-same : (j : Rec → Bool) (r : Rec) → j r ≡ k r → hitWords j (r ∷ []) ≡ hitWords k (r ∷ [])
+  unfolding hitWords keep
+  words-same j r e = rw e
 
   pub words-yes : (r : Rec) → k r ≡ true → hitWords k (r ∷ []) ≡ pair r
   unfolding hitWords keep
@@ -104,7 +109,7 @@ module _ (k : Rec → Bool) where
 
   pub book-words : (w : List ℕ) → hitWords k (span w 0 (total w - 0)) ≡ pairs (hitSubs k w)
   unfolding hitWords hitSubs
-  book-words w = ap (λ (s : List Rec). pairs (map (subOf plain) (keep k s))) (whole w)
+  book-words w = ap (λ (s : List Rec). pairs (map (subOf form) (keep k s))) (whole w)
 
   pub book-count : (w : List ℕ) → tally k (span w 0 (total w - 0)) ≡ length (hitSubs k w)
   book-count w =
@@ -114,7 +119,8 @@ module _ (k : Rec → Bool) where
 
   -- ---- the loop that writes
 
-  module _ (w : List ℕ) (from i to at : ℕ) (d : List ℕ) (low : from ≤ i) (high : i < to) (room : at + 2 * tally k (span w from (to - from)) ≤ length d) where
+  module _ (w : List ℕ) (from i to at : ℕ) (d : List ℕ) (low : from ≤ i) (high : i < to)
+      (room : at + 2 * tally k (span w from (to - from)) ≤ length d) where
     abbrev sofar : List ℕ
     sofar = hitWords k (span w from (i - from))
 
@@ -135,22 +141,26 @@ module _ (k : Rec → Bool) where
         let t = tally-span w from i low k in
         omega (arith, room)
 
-    pub turn : (d1 d2 : List ℕ) (e e2 : ℕ) → Wrote d at sofar d1 e → Wrote d1 e (hitWords k (recAt w i ∷ [])) d2 e2 → Wrote d at onemore d2 e2
-    turn d1 d2 e e2 a b =
+    -- the record is written by another test that says the same of it
+    pub turn : (j : Rec → Bool) → j (recAt w i) ≡ k (recAt w i) → (d1 d2 : List ℕ) (e e2 : ℕ) → WroteHits d at sofar d1 e
+        → WroteHits d1 e (hitWords j (recAt w i ∷ [])) d2 e2 → WroteHits d at onemore d2 e2
+    turn j same d1 d2 e e2 a b =
         let n : List ℕ = hitWords k (recAt w i ∷ []) in
+        let s : hitWords j (recAt w i ∷ []) ≡ n = words-same j (recAt w i) same in
         let f : at + length sofar + length n ≤ length d = rw here fits in
         let p : pasted (pasted d at sofar) (at + length sofar) n ≡ pasted d at (sofar ++ n) = pasted-two d at sofar n f in
+        let l : length onemore ≡ length sofar + length n = ap length more ∙ length-append sofar n in
         record {
-          space = b .space ∙ (λ q. pasted (a .space q) (a .next q) n) ∙ p ∙ ap (pasted d at) (sym more);
-          next = b .next ∙ ap (λ (m : ℕ). m + length n) (a .next) ∙ sym (ap (λ (l : List ℕ). at + length l) more ∙ ap (λ (m : ℕ). at + m) (length-append sofar n) ∙ omega arith);
+          space = b .space ∙ (λ q. pasted (a .space q) (a .next q) (s q)) ∙ p ∙ ap (pasted d at) (sym more);
+          next = omega (arith, b .next, a .next, ap length s);
         }
 
-    pub turn-no : (d1 : List ℕ) (e : ℕ) → k (recAt w i) ≡ false → Wrote d at sofar d1 e → Wrote d at onemore d1 e
+    pub turn-no : (d1 : List ℕ) (e : ℕ) → k (recAt w i) ≡ false → WroteHits d at sofar d1 e → WroteHits d at onemore d1 e
     turn-no d1 e h a =
         let m : onemore ≡ sofar = more ∙ ap (λ (l : List ℕ). sofar ++ l) (words-no (recAt w i) h) ∙ append-nil sofar in
         record { space = a .space ∙ ap (pasted d at) (sym m); next = a .next ∙ ap (λ (l : List ℕ). at + length l) (sym m) }
 
-  pub begun : (w : List ℕ) (from at : ℕ) (d : List ℕ) → Wrote d at (hitWords k (span w from (from - from))) d at
+  pub begun : (w : List ℕ) (from at : ℕ) (d : List ℕ) → WroteHits d at (hitWords k (span w from (from - from))) d at
   unfolding hitWords keep pairs
   begun w from at d =
       rw (span-none w from)

@@ -11,8 +11,7 @@ use Rattle.place.specs.FirstWord.{firstWord}
 use Rattle.event.specs.Class.{classOf}
 use Rattle.header.specs.Header.{Alert}
 use Rattle.clock.specs.declared.Clock.{Clock}
-use Rattle.book_rules.specs.Load.{Sub}
-use Rattle.book_rules.specs.Afresh.{times}
+use Rattle.book_rules.specs.Subscription.{Sub, howOften}
 use Rattle.report.specs.Hits.{isHit, pairs}
 use Rattle.report.specs.Report.{Full, summaryOf}
 use Rattle.report.specs.Promise.{writesHits}
@@ -30,7 +29,7 @@ wanted client a = isHit client (classOf (a .event)) (a .places)
 -- many they are
 pub record Lists (standing : List Sub) (client : ℕ) (a : Alert) (at : Clock) (out : List ℕ) (said : Said Full) : Type 0 where
   pub hits : List Sub
-  pub exactly : (x : Sub) → times x hits ≡ choose (wanted client a x) (times x standing) 0
+  pub exactly : (x : Sub) → howOften x hits ≡ choose (wanted client a x) (howOften x standing) 0
   pub order : After 0 hits
   pub count : length hits ≡ tally (wanted client a) standing
   pub says : said ≡ granted (record { summary = summaryOf at a hits; hits = hits })

@@ -8,7 +8,7 @@ use Rattle.laws.specs.Numbers.{within}
 use Rattle.place.specs.Place.{matchesSome}
 use Rattle.event.specs.Class.{classOf}
 use Rattle.header.specs.Header.{Alert}
-use Rattle.book_rules.specs.Load.{Sub}
+use Rattle.book_rules.specs.Subscription.{Sub}
 
 -- a wish is the sum of 2^(class − 1) over the classes 1 to 6 wanted; class 0 matches nobody
 unfoldable pub hasClass : ℕ → ℕ → Bool

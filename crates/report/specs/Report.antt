@@ -1,6 +1,5 @@
 -- Paper 01, "Numbers and what they leave": the report, 16, 17, the header's, 15, 14, 13.
 use Prim.Native.Nat.{ℕ, _*_}
-use mathlib.Core.Bool.{not}
 use mathlib.Core.List.{List, [], _∷_, _++_}
 use lib.ListN.{length}
 use lib.Dec.{ltb}
@@ -9,12 +8,12 @@ use Rattle.header.specs.Header.{Alert}
 use Rattle.header.specs.Reading.{readSays}
 use Rattle.event.specs.Events.{isListed}
 use Rattle.event.specs.Class.{classOf}
-use Rattle.clock.specs.Clock.{hasDay, isClock}
+use Rattle.clock.specs.Answers.{badClock, noDay}
 use Rattle.clock.specs.Lifetime.{yearOf, timesOf}
 use Rattle.clock.specs.declared.Clock.{Clock}
-use Rattle.book_rules.specs.Form.{plain}
-use Rattle.book_rules.specs.Edits.{sound, who}
-use Rattle.book_rules.specs.Load.{Sub}
+use Rattle.book_rules.specs.Form.{form}
+use Rattle.book_rules.specs.Edits.{bookRow, clientRow}
+use Rattle.book_rules.specs.Subscription.{Sub}
 use Rattle.book_rules.specs.Afresh.{subs}
 use Rattle.report.specs.declared.Summary.{Summary}
 use Rattle.report.specs.Hits.{hitsOf}
@@ -38,8 +37,8 @@ pub record Full : Type 0 where
 -- clock out of range; day 366 missing; lent space smaller than the result
 abbrev pub timesRows : Clock → Alert → List (Row (Said Full))
 timesRows at a =
-    refused 15 when not (isClock at)
-    ∷ refused 14 when not (hasDay (yearOf at (a .day) (a .hour) (a .minute)) (a .day))
+    badClock at
+    ∷ noDay (yearOf at (a .day) (a .hour) (a .minute)) (a .day)
     ∷ []
 
 abbrev pub roomRows : ℕ → List Sub → List (Row (Said Full))
@@ -52,8 +51,8 @@ alertSays at room a hits = inOrder (timesRows at a ++ roomRows room hits) (grant
 -- of some subscriptions, whatever book they stand in
 unfoldable pub listSays : List Sub → ℕ → List ℕ → Clock → ℕ → Said Full
 listSays list client text at room =
-    inOrder (who client) (next (readSays text) (λ a. alertSays at room a (hitsOf client a list)))
+    inOrder (clientRow client) (next (readSays text) (λ a. alertSays at room a (hitsOf client a list)))
 
 -- of a book: it is checked first
 unfoldable pub reportSays : List ℕ → ℕ → List ℕ → Clock → ℕ → Said Full
-reportSays book client text at room = inOrder (sound plain book) (listSays (subs plain book) client text at room)
+reportSays book client text at room = inOrder (bookRow form book) (listSays (subs form book) client text at room)

@@ -3,7 +3,7 @@
 // bytes, so neither space is ever too small.
 ghost use mathlib.Core.Path.{_≡_};
 ghost use lib.ListN.{length};
-ghost use Rattle.report_program.specs.Reading.{after, Within};
+ghost use Rattle.report_program.specs.Reading.{afterRead, Within};
 use page_printing::Printed;
 
 // What a read brought: so many bytes more; the end of an input that has so many; or it failed.
@@ -15,7 +15,7 @@ enum Input {
 
 // What the system's answer to a read means, after n bytes. A read that failed is no end of the input.
 fn took(n: usize, got: isize) -> Input
-    ensures { λ r. ⌜ r ≡ after n got ⌝ }
+    ensures { λ r. ⌜ r ≡ afterRead n got ⌝ }
 {
     if got < 0 {
         return Input::Failed;

@@ -2,8 +2,8 @@
 use Prim.Native.Nat.{ℕ}
 use mathlib.Core.List.{List}
 use Rattle.laws.specs.Order.{Said, granted, inOrder}
-use Rattle.book_rules.specs.Form.{plain}
-use Rattle.book_rules.specs.Edits.{sound}
+use Rattle.book_rules.specs.Form.{form}
+use Rattle.book_rules.specs.Edits.{bookRow}
 use Rattle.burst.specs.Strip.{lead}
 
 -- how many bytes lead; it never refuses
@@ -12,4 +12,4 @@ stripSays burst = granted (lead burst)
 
 -- 16, or nothing
 abbrev pub goodSays : List ℕ → Said ℕ
-goodSays w = inOrder (sound plain w) (granted 0)
+goodSays w = inOrder (bookRow form w) (granted 0)

@@ -1,4 +1,4 @@
--- `records::bad_client` meets its contract. Assumes nothing.
+-- The first test gives the lower bound, and what is left is the upper one: over 9,999 is not within.
 use native.Mathlib.Omega.{arith}
 use borrow.Author.Tests.{le-leb, lt-leb}
 use Rattle.book_rules.specs.Form.{badClient}

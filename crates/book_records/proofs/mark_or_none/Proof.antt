@@ -2,7 +2,7 @@
 use mathlib.Core.Bool.{true, false}
 use mathlib.Core.Path.{_≡_, sym, _∙_}
 use native.Mathlib.Omega.{arith}
-use Rattle.book_rules.specs.Form.{plain, badClient, badWish}
+use Rattle.book_rules.specs.Form.{form, clientAndWish, badClient, badWish}
 use Rattle.book_rules.proofs.Form.{client-fits, wish-fits}
 use Rattle.book_records.proofs.Second.{mark-made, mark-of-no-client, mark-of-no-wish}
 use borrow.Author.Needs.{needs}
@@ -35,7 +35,7 @@ add-result : tie.Need-add-result
 add-result c = omega (arith, client-fits _ (client-ok (c .before .before)), wish-fits _ (wish-ok c))
 
 returns-3 : tie.Need-returns-3
-unfolding plain
+unfolding form clientAndWish
 returns-3 c = record { says = sym (mark-made _ _ (client-ok (c .before .before)) (wish-ok c)) }
 
 pub mark-or-none-spec : {M : Type 1} → statement M

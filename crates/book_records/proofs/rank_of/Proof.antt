@@ -1,4 +1,4 @@
--- `records::rank_of` meets its contract. Assumes nothing.
+-- Widened to 64 bits a word times 10,000 and a client fit, so the sum is the definition's.
 use Prim.Native.Nat.{_+_, _*_}
 use borrow.Author.Needs.{needs}
 use Rattle.book_records.proofs.rank_of.Statement.{statement}

@@ -1,4 +1,4 @@
--- `records::rank_or_none` meets its contract. Assumes nothing.
+-- Whether the words are in range decides between 0 and the rank, which is taken from the first word and the client of the second.
 use Prim.Native.Nat.{ℕ, _+_, _*_}
 use mathlib.Core.Path.{sym, _∙_, ap}
 use borrow.Author.Tests.{not-true, not-false}

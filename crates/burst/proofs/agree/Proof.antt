@@ -1,4 +1,4 @@
--- `burst::agree` meets its contract: its calls' promises, put together by laws over plain values. Assumes nothing.
+-- A difference below n is 3; else the voted front and the copied rest are pasted one after the other, and make the text.
 use native.Mathlib.Omega.{arith}
 use Rattle.burst.proofs.Agreed.{agree-3, agree-text}
 use borrow.Author.Needs.{needs}
@@ -25,12 +25,16 @@ same-length c = search needs
 
 returns-2 : tie.Need-returns-2
 returns-2 c =
-    let a = c .before .before .before .before .before .before .before .before .before .before .before .before .before .before .args in
-    let k = c .before .before .before .before .before .before .before .before .before .first-difference in
-    let v = c .before .before .before .before .before .before .write-voted in
+    let copied = c .before .before in
+    let voted = copied .before .before .before .before in
+    let searched = voted .before .before .before in
+    let entry = searched .before .before .before .before .before in
+    let a = entry .args in
+    let k = searched .first-difference in
+    let v = voted .write-voted in
+    let r = copied .write-rest in
     agree-text (a .s .now) (a .p .now) (a .q .now) (a .n) (a .out .now) (k .result) (k .ensures)
-    (v .last .1 .1 .1 .1 .0) (c .before .before .write-rest .last .1 .1 .1 .0) (omega arith) (omega arith) (omega arith) (omega arith)
-    (v .ensures) (c .before .before .write-rest .ensures)
+    (v .last .1 .1 .1 .1 .0) (r .last .1 .1 .1 .0) (omega arith) (entry .pre .0) (entry .pre .1) (entry .pre .3) (v .ensures) (r .ensures)
 
 pub agree-spec : {M : Type 1} → statement M
 agree-spec =

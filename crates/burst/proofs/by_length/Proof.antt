@@ -1,10 +1,13 @@
--- `burst::by_length` meets its contract: at each way out it is known which burst is the shortest. Assumes nothing.
+-- At each way out the tests say which burst is the shortest; the other two stand in their order.
 use native.Mathlib.Omega.{arith}
 use Rattle.burst.proofs.Arranged.{shortest-a, shortest-b, shortest-c}
 use Rattle.burst.proofs.Agreed.{decides}
 use borrow.Author.Needs.{needs}
 use Rattle.burst.proofs.by_length.Statement.{statement}
 use Rattle.burst.proofs.by_length.Tie as tie
+
+abbrev start : tie.After-slice-known → tie.Start
+start c = c .before .before .before .before
 
 agree-requires : tie.Need-agree-requires
 agree-requires c κs = search needs
@@ -14,7 +17,7 @@ same-length c = search needs
 
 returns : tie.Need-returns
 returns c =
-    let a = c .before .before .before .before .before .before .before .before .before .before .args in
+    let a = start (c .before .before .before .before .before .before) .args in
     let g = c .before .before .agree in
     decides (a .a .now) (a .b .now) (a .c .now) (a .a .now) (a .b .now) (a .c .now) (a .n) (a .out .now) (g .result) (g .last .1 .1 .1 .1 .0) (g .ensures)
     (shortest-a (a .a .now) (a .b .now) (a .c .now) (a .n) (omega arith) (omega arith) (omega arith)) (omega arith) (omega arith) (omega arith) (omega arith)
@@ -27,7 +30,7 @@ same-length-2 c = search needs
 
 returns-2 : tie.Need-returns-2
 returns-2 c =
-    let a = c .before .before .before .before .before .before .before .before .before .before .args in
+    let a = start (c .before .before .before .before .before .before) .args in
     let g = c .before .before .agree2 in
     decides (a .a .now) (a .b .now) (a .c .now) (a .c .now) (a .a .now) (a .b .now) (a .n) (a .out .now) (g .result) (g .last .1 .1 .1 .1 .0) (g .ensures)
     (shortest-c (a .a .now) (a .b .now) (a .c .now) (a .n) (omega arith) (omega arith) (omega arith)) (omega arith) (omega arith) (omega arith) (omega arith)
@@ -40,7 +43,7 @@ same-length-3 c = search needs
 
 returns-3 : tie.Need-returns-3
 returns-3 c =
-    let a = c .before .before .before .before .before .before .before .before .before .before .args in
+    let a = start (c .before .before .before .before .before .before) .args in
     let g = c .before .before .agree3 in
     decides (a .a .now) (a .b .now) (a .c .now) (a .b .now) (a .a .now) (a .c .now) (a .n) (a .out .now) (g .result) (g .last .1 .1 .1 .1 .0) (g .ensures)
     (shortest-b (a .a .now) (a .b .now) (a .c .now) (a .n) (omega arith) (omega arith) (omega arith)) (omega arith) (omega arith) (omega arith) (omega arith)
@@ -53,7 +56,7 @@ same-length-4 c = search needs
 
 returns-4 : tie.Need-returns-4
 returns-4 c =
-    let a = c .before .before .before .before .before .before .before .before .before .before .args in
+    let a = start (c .before .before .before .before .before .before) .args in
     let g = c .before .before .agree4 in
     decides (a .a .now) (a .b .now) (a .c .now) (a .c .now) (a .a .now) (a .b .now) (a .n) (a .out .now) (g .result) (g .last .1 .1 .1 .1 .0) (g .ensures)
     (shortest-c (a .a .now) (a .b .now) (a .c .now) (a .n) (omega arith) (omega arith) (omega arith)) (omega arith) (omega arith) (omega arith) (omega arith)

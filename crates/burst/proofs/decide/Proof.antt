@@ -1,28 +1,31 @@
--- `burst::decide` meets its contract: at each way out the tests that led there say which row of the order holds. Assumes nothing.
+-- At each way out the tests that led there say which row of the order holds.
 use native.Mathlib.Omega.{arith}
 use Rattle.burst.proofs.Agreed.{decide-2, decide-4, decide-13}
 use borrow.Author.Needs.{needs}
 use Rattle.burst.proofs.decide.Statement.{statement}
 use Rattle.burst.proofs.decide.Tie as tie
 
+abbrev start : tie.After-slice-known → tie.Start
+start c = c .before .before .before .before
+
 median-requires : tie.Need-median-requires
 median-requires c κs = search needs
 
 returns : tie.Need-returns
 returns c =
-    let a = c .before .before .before .before .before .before .args in
+    let a = start (c .before .before) .args in
     let m = c .before .median in
     decide-2 (a .a .now) (a .b .now) (a .c .now) (a .out .now) (m .result) (m .ensures) (omega arith)
 
 returns-2 : tie.Need-returns-2
 returns-2 c =
-    let a = c .before .before .before .before .before .before .before .args in
+    let a = start (c .before .before .before) .args in
     let m = c .before .before .median in
     decide-4 (a .a .now) (a .b .now) (a .c .now) (a .out .now) (m .result) (m .ensures) (omega arith) (omega arith)
 
 returns-3 : tie.Need-returns-3
 returns-3 c =
-    let a = c .before .before .before .before .before .before .before .before .args in
+    let a = start (c .before .before .before .before) .args in
     let m = c .before .before .before .median in
     decide-13 (a .a .now) (a .b .now) (a .c .now) (a .out .now) (m .result) (m .ensures) (omega arith) (omega arith) (omega arith)
 

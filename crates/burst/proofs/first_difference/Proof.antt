@@ -1,4 +1,4 @@
--- `burst::first_difference` meets its contract: what is sought from `from` on is, at the loop's head, sought from i on. Assumes nothing.
+-- At the loop's head nothing differs before i: what is sought from `from` on is sought from i on.
 use mathlib.Core.Path.{_≡_, refl, sym, ap, _∙_}
 use mathlib.Core.Bool.{not}
 use Prim.Native.Nat.{_+_, _-_, _≤_}

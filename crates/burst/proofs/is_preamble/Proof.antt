@@ -1,4 +1,4 @@
--- `burst::is_preamble` meets its contract. Assumes nothing.
+-- The comparison with AB is the definition.
 use mathlib.Core.Path.{refl}
 use Rattle.burst.specs.Strip.{preamble}
 use Rattle.burst.proofs.is_preamble.Statement.{statement}

@@ -1,4 +1,4 @@
--- `burst::leading` meets its contract: at the loop's head i bytes lead, and then as many as lead the rest. Assumes nothing.
+-- At the loop's head i bytes lead, and then as many as lead the rest.
 use mathlib.Core.Path.{_≡_, sym, _∙_}
 use Prim.Native.Nat.{_+_, _-_, _≤_}
 use native.Mathlib.Omega.{arith}
@@ -29,7 +29,8 @@ returns : tie.Need-returns Inv-loop μ-loop
 returns c =
     let l = c .before .before .before .before .before .before .args .burst .now in
     let i = c .before .before .before .before .loop .i in
-    record { says = omega (arith, no-more l i (omega arith) (sym (c .before .is-preamble .ensures) ∙ not-true (c .before .is-preamble .result) (c .if1 .taken))) }
+    let p = c .before .is-preamble in
+    record { says = omega (arith, no-more l i (omega arith) (sym (p .ensures) ∙ not-true (p .result) (c .if1 .taken))) }
 
 add-i : tie.Need-add-i Inv-loop μ-loop
 add-i c = search needs
@@ -41,7 +42,8 @@ loop-again : tie.Need-loop-again Inv-loop μ-loop
 loop-again c =
     let l = c .before .before .before .before .before .before .args .burst .now in
     let i = c .before .before .before .before .loop .i in
-    let m = one-more l i (omega arith) (sym (c .before .is-preamble .ensures) ∙ not-false (c .before .is-preamble .result) (c .if1 .left)) in
+    let p = c .before .is-preamble in
+    let m = one-more l i (omega arith) (sym (p .ensures) ∙ not-false (p .result) (c .if1 .left)) in
     (omega arith, omega arith)
 
 returns-2 : tie.Need-returns-2 Inv-loop μ-loop

@@ -1,5 +1,4 @@
--- `burst::majority` meets its contract: at the loop's head r is the number of the k lowest voted bits, and w is 2 to the k.
--- Assumes nothing.
+-- At the loop's head r is the number of the k lowest voted bits, and w is 2 to the k.
 use mathlib.Core.Path.{_≡_, ap, _∙_}
 use Prim.Native.Nat.{ℕ, zero, suc, _+_, _-_, _*_, _/_, _%_, _^_, _≤_, _<_}
 use native.Mathlib.Numerals.{add-one}
@@ -41,7 +40,11 @@ loop-holds c = search needs
 small : (c : tie.In-loop Inv-loop μ-loop) → (0 < c .before .loop .w) × (c .before .loop .w < 256)
 small c = omega (arith, pow-pos (c .before .loop .k), pow-lt (c .loop-test .taken))
 
-one : (c : tie.In-loop Inv-loop μ-loop) → weighed (c .before .before .args .x) (c .before .before .args .y) (c .before .before .args .z) (c .before .loop .w) * c .before .loop .w ≤ c .before .loop .w
+-- the bit of this turn, times its weight
+abbrev now-added : tie.In-loop Inv-loop μ-loop → ℕ
+now-added c = let a = c .before .before .args in weighed (a .x) (a .y) (a .z) (c .before .loop .w) * c .before .loop .w
+
+one : (c : tie.In-loop Inv-loop μ-loop) → now-added c ≤ c .before .loop .w
 one c =
     let a = c .before .before .args in
     let w = c .before .loop .w in

@@ -1,4 +1,4 @@
--- `burst::median` meets its contract. Assumes nothing.
+-- The lesser and the greater of two are told apart first; where the third lies among them is arithmetic.
 use native.Mathlib.Omega.{arith}
 use borrow.Author.Needs.{needs}
 use Rattle.burst.proofs.median.Statement.{statement}

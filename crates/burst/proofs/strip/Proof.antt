@@ -1,4 +1,4 @@
--- `burst::strip` meets its contract: at most all bytes lead, and the part starts so many bytes on. Assumes nothing.
+-- At most all bytes lead, so the part that starts so many bytes on is there, and is what is left.
 use mathlib.Core.Path.{_≡_, refl, ap, _∙_}
 use mathlib.Core.List.{List}
 use Prim.Native.Nat.{ℕ, _-_, _≤_}

@@ -1,4 +1,4 @@
--- `burst::too_long` meets its contract. Assumes nothing.
+-- The three tests of 268 are those of the definition, in its order; the last is the answer.
 use borrow.Author.Tests.{lt-ltb, le-ltb}
 use lib.ListN.{length}
 use Rattle.burst.specs.Vote.{tooLong}

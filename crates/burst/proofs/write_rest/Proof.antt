@@ -1,4 +1,4 @@
--- `burst::write_rest` meets its contract: at the loop's head the bytes from `at` on are left to write. Assumes nothing.
+-- At the loop's head the bytes from `at` on are left to write.
 use mathlib.Core.Path.{_≡_, sym, ap, _∙_}
 use mathlib.Core.List.{List}
 use Prim.Native.Nat.{ℕ, _+_, _-_, _≤_, _<_}

@@ -1,4 +1,4 @@
--- `burst::write_voted` meets its contract: at the loop's head the bytes from i on are left to write. Assumes nothing.
+-- At the loop's head the voted bytes from i on are left to write.
 use mathlib.Core.Path.{sym, _∙_}
 use mathlib.Core.List.{List}
 use Prim.Native.Nat.{ℕ, _-_, _≤_}
@@ -55,8 +55,9 @@ loop-less c = search needs
 
 loop-again : tie.Need-loop-again Inv-loop μ-loop
 loop-again c =
-    let a = c .before .before .before .before .before .before .before .before .before .before .args in
-    let l = c .before .before .before .before .before .loop in
+    let turn = c .before .before .before .before .before in
+    let a = turn .before .before .before .before .before .args in
+    let l = turn .loop in
     let f = voted (a .a .now) (a .b .now) (a .c .now) in
     let s = votedBytes (a .a .now) (a .b .now) (a .c .now) (a .n) in (
       omega arith,

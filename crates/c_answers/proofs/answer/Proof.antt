@@ -1,4 +1,4 @@
--- `answers::answer` meets its contract. Assumes nothing.
+-- What is beside is capped to a half, so the sum does not run over.
 use mathlib.Core.Path.{_≡_, ap}
 use Prim.Native.Nat.{ℕ, _+_, _*_}
 use borrow.Author.Needs.{needs}

@@ -1,4 +1,4 @@
--- `answers::cap` meets its contract. Assumes nothing.
+-- Below the highest a value is itself; from there on it is the highest.
 use native.Mathlib.Omega.{arith}
 use Rattle.c_answers.proofs.cap.Statement.{statement}
 use Rattle.c_answers.proofs.cap.Tie as tie

@@ -1,8 +1,8 @@
--- `answers::printed` meets its contract. Assumes nothing.
+-- Bytes stand beside 0, a refusal's number beside nothing: one law of packing for each case.
 use mathlib.Core.Path.{_≡_, refl, sym, ap, _∙_}
 use Prim.Native.Nat.{ℕ}
 use Rattle.page_printing.specs.Promise.{saidPrinted}
-use Rattle.c_answers.specs.Answer.{packed, bare}
+use Rattle.c_answers.specs.Answer.{inHalves, bare}
 use Rattle.c_answers.proofs.Packs.{packs-granted, packs-refused}
 use borrow.Author.Needs.{needs}
 use Rattle.c_answers.proofs.printed.Statement.{statement}
@@ -21,10 +21,10 @@ answer-requires-2 : tie.Need-answer-requires-2
 answer-requires-2 c κs = search needs
 
 returns : tie.Need-returns
-returns c = record { says = packs-granted _ _ (c .answer .ensures .says) ∙ sym (ap (λ v. packed (saidPrinted v)) (c .before .before .p .given .1)) }
+returns c = record { says = packs-granted _ _ (c .answer .ensures .says) ∙ sym (ap (λ v. inHalves (saidPrinted v)) (c .before .before .p .given .1)) }
 
 returns-2 : tie.Need-returns-2
-returns-2 c = record { says = packs-refused _ _ (c .answer2 .ensures .says) ∙ sym (ap (λ v. packed (saidPrinted v)) (c .before .before .p2 .given .1)) }
+returns-2 c = record { says = packs-refused _ _ (c .answer2 .ensures .says) ∙ sym (ap (λ v. inHalves (saidPrinted v)) (c .before .before .p2 .given .1)) }
 
 pub printed-spec : {M : Type 1} → statement M
 printed-spec =

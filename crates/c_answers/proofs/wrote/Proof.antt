@@ -1,9 +1,9 @@
--- `answers::wrote` meets its contract. Assumes nothing.
+-- The length stands beside 0, a refusal has its number alone: the case says which law of packing holds.
 use mathlib.Core.Path.{_≡_, refl, sym, ap, _∙_}
 use Prim.Native.Nat.{ℕ, suc, _+_, _-_, _*_, _≤_, _<_}
 use native.Mathlib.Omega.{arith}
 use Rattle.header.specs.Answers.{saidWrote}
-use Rattle.c_answers.specs.Answer.{packed}
+use Rattle.c_answers.specs.Answer.{inHalves}
 use Rattle.c_answers.proofs.Packs.{packs-granted, packs-refused}
 use borrow.Author.Needs.{needs}
 use Rattle.c_answers.proofs.wrote.Statement.{statement}
@@ -22,10 +22,10 @@ answer-requires-2 : tie.Need-answer-requires-2
 answer-requires-2 c κs = search needs
 
 returns : tie.Need-returns
-returns c = record { says = packs-granted _ _ (c .answer .ensures .says) ∙ sym (ap (λ v. packed (saidWrote v)) (c .before .before .w .given .1)) }
+returns c = record { says = packs-granted _ _ (c .answer .ensures .says) ∙ sym (ap (λ v. inHalves (saidWrote v)) (c .before .before .w .given .1)) }
 
 returns-2 : tie.Need-returns-2
-returns-2 c = record { says = packs-refused _ _ (c .answer2 .ensures .says) ∙ sym (ap (λ v. packed (saidWrote v)) (c .before .before .w2 .given .1)) }
+returns-2 c = record { says = packs-refused _ _ (c .answer2 .ensures .says) ∙ sym (ap (λ v. inHalves (saidWrote v)) (c .before .before .w2 .given .1)) }
 
 pub wrote-spec : {M : Type 1} → statement M
 wrote-spec =

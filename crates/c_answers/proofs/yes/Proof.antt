@@ -1,4 +1,4 @@
--- `answers::yes` meets its contract. Assumes nothing.
+-- The branch says what the test is, and so whether it counts 1 or 0.
 use mathlib.Core.Path.{_≡_, sym, ap}
 use Rattle.laws.specs.Lists.{one}
 use Rattle.c_answers.proofs.yes.Statement.{statement}

@@ -1,4 +1,4 @@
--- `words::byte_of` meets its contract. Assumes nothing.
+-- A word over 255 is the byte 0: the test decides.
 use mathlib.Core.Path.{_≡_, refl, sym, ap, _∙_}
 use Prim.Native.Nat.{ℕ, suc, _+_, _-_, _*_, _≤_, _<_}
 use native.Mathlib.Omega.{arith}

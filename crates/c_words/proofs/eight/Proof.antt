@@ -1,4 +1,4 @@
--- `words::eight` meets its contract. Assumes nothing.
+-- At the loop's head the first k bytes are in their places, and the rest are zeros.
 use mathlib.Core.Path.{_≡_, refl, sym, ap, _∙_}
 use Prim.Native.Nat.{ℕ, suc, _+_, _-_, _*_, _≤_, _<_}
 use native.Mathlib.Omega.{arith}
@@ -49,8 +49,12 @@ loop-again c =
     let h : l .k < 8 = c .before .before .loop-test .taken in
     let r : a .at + 8 ≤ length w = c .before .before .before .before .before .pre in
     let t : List ℕ = bytesAt 8 (a .at) w in
-    let n : length t ≡ 8 = bytes-length w (a .at) 8 r in
-    (omega arith, length-set (l .bytes) (l .k) (c .byte-of .result) ∙ l .inv .1, fill t (replicate 8 0) (l .bytes) (l .k) (c .byte-of .result) (omega arith) (sym n) (c .byte-of .ensures ∙ sym (bytes-at w (a .at) 8 (l .k) h)) (l .inv .2))
+    let n : length t ≡ 8 = bytes-length w (a .at) 8 r in (
+      omega arith,
+      length-set (l .bytes) (l .k) (c .byte-of .result) ∙ l .inv .1,
+      fill t (replicate 8 0) (l .bytes) (l .k) (c .byte-of .result) (omega arith) (sym n)
+          (c .byte-of .ensures ∙ sym (bytes-at w (a .at) 8 (l .k) h)) (l .inv .2),
+    )
 
 returns : tie.Need-returns Inv-loop μ-loop
 returns c =

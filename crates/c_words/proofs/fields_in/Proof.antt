@@ -1,4 +1,4 @@
--- `words::fields_in` meets its contract. Assumes nothing.
+-- Each group of words is one call, and each number one word.
 use native.Mathlib.Omega.{arith}
 use lib.ListN.{getD}
 use Rattle.c_words.specs.Words.{fieldsIn}
@@ -39,17 +39,19 @@ shared-slice-read-t16 c = search needs
 returns : tie.Need-returns
 unfolding fieldsIn
 returns c =
-    let w = c .before .before .before .before .before .before .before .before .before .before .args .w .now in
+    let eight = c .before .before .before .before .before in
+    let event = eight .before .before in
+    let w = event .before .before .before .args .w .now in
     λ q. record {
-      origin = c .before .before .before .before .before .before .before .before .three .ensures q;
-      event = c .before .before .before .before .before .before .before .three2 .ensures q;
-      places = c .before .before .before .before .before .before .places-in .ensures q;
+      origin = event .before .three .ensures q;
+      event = event .three2 .ensures q;
+      places = eight .before .places-in .ensures q;
       count = getD w 6 0;
       duration = getD w 7 0;
       day = getD w 8 0;
       hour = getD w 9 0;
       minute = getD w 10 0;
-      sender = c .before .before .before .before .before .eight .ensures q;
+      sender = eight .eight .ensures q;
     }
 
 pub fields-in-spec : {M : Type 1} → statement M

@@ -1,4 +1,4 @@
--- `words::give` meets its contract. Assumes nothing.
+-- 13 where fewer than 50 words are lent; else the front and then the back are pasted, and together they are all 50.
 use native.Mathlib.Omega.{arith}
 use Rattle.c_words.proofs.Pastes.{gives-few, gives-all}
 use borrow.Author.Needs.{needs}
@@ -24,7 +24,10 @@ same-length : tie.Need-same-length
 same-length c = search needs
 
 returns-2 : tie.Need-returns-2
-returns-2 c = gives-all (c .before .before .before .before .before .before .before .before .before .before .before .args .f) (c .before .before .before .before .before .before .before .before .before .before .before .args .out .now) _ _ _ (omega arith) (c .answer2 .ensures .says) (c .before .before .before .before .before .before .before .put-front .ensures) (c .before .before .before .put-back .ensures)
+returns-2 c =
+    let front = c .before .before .before .before .before .before .before in
+    let a = front .before .before .before .before .args in
+    gives-all (a .f) (a .out .now) _ _ _ (omega arith) (c .answer2 .ensures .says) (front .put-front .ensures) (c .before .before .before .put-back .ensures)
 
 pub give-spec : {M : Type 1} → statement M
 give-spec =

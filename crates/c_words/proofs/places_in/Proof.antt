@@ -1,4 +1,4 @@
--- `words::places_in` meets its contract. Assumes nothing.
+-- At the loop's head the first k places are in theirs, and the rest are zeros.
 use mathlib.Core.Path.{_≡_, refl, sym, ap, _∙_}
 use Prim.Native.Nat.{ℕ, suc, _+_, _-_, _*_, _≤_, _<_}
 use native.Mathlib.Omega.{arith}
@@ -49,7 +49,11 @@ loop-again c =
     let h : l .k < 31 = c .before .loop-test .taken in
     let r : 50 ≤ length w = c .before .before .before .pre in
     let n : length (placesIn w) ≡ 31 = part-length w 19 31 (omega arith) in
-    (omega arith, length-set (l .places) (l .k) (getD w (19 + l .k) 0) ∙ l .inv .1, fill (placesIn w) (replicate 31 0) (l .places) (l .k) (getD w (19 + l .k) 0) (omega arith) (sym n) (sym (part-at w 19 31 (l .k) h)) (l .inv .2))
+    let x : ℕ = getD w (19 + l .k) 0 in (
+      omega arith,
+      length-set (l .places) (l .k) x ∙ l .inv .1,
+      fill (placesIn w) (replicate 31 0) (l .places) (l .k) x (omega arith) (sym n) (sym (part-at w 19 31 (l .k) h)) (l .inv .2),
+    )
 
 returns : tie.Need-returns Inv-loop μ-loop
 unfolding placesIn

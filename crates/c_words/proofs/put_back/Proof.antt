@@ -1,4 +1,4 @@
--- `words::put_back` meets its contract. Assumes nothing.
+-- Sender and places are pasted one behind the other.
 use mathlib.Core.Path.{_≡_, sym}
 use Prim.Native.Nat.{ℕ, _+_, _≤_}
 use native.Mathlib.Omega.{arith}
@@ -19,7 +19,9 @@ slice-aggregate-put-words : tie.Need-slice-aggregate-put-words
 slice-aggregate-put-words c = search needs
 
 put-words-requires : tie.Need-put-words-requires
-put-words-requires c κs = omega (arith, slice-aggregate-put-words c, c .before .before .before .before .put-bytes .kept, c .before .before .before .before .before .before .before .before .before .before .pre)
+put-words-requires c κs =
+    let first = c .before .before .before .before in
+    omega (arith, slice-aggregate-put-words c, first .put-bytes .kept, first .before .before .before .before .before .before .pre)
 
 same-length : tie.Need-same-length
 same-length c = search needs
@@ -27,11 +29,16 @@ same-length c = search needs
 returns : tie.Need-returns
 unfolding backWords
 returns c =
-    let a = c .before .before .before .before .before .before .before .before .before .before .before .before .before .args in
-    let h : 50 ≤ length (a .out .now) = c .before .before .before .before .before .before .before .before .before .before .before .before .before .pre in
-    let o : 8 ≡ length (a .f .sender) = slice-aggregate-put-bytes (c .before .before .before .before .before .before .before .before) in
-    let e : 31 ≡ length (a .f .places) = slice-aggregate-put-words (c .before .before .before) in
-    (paste-two (a .out .now) _ _ 11 19 (a .f .sender) (a .f .places) (omega arith) (omega arith) (c .before .before .before .before .before .before .before .put-bytes .ensures) (c .before .before .put-words .ensures), back-length (a .f) (sym o) (sym e))
+    let second = c .before .before in
+    let first = second .before .before .before .before .before in
+    let start = first .before .before .before .before .before .before in
+    let a = start .args in
+    let h : 50 ≤ length (a .out .now) = start .pre in
+    let o : 8 ≡ length (a .f .sender) = slice-aggregate-put-bytes (first .before) in
+    let e : 31 ≡ length (a .f .places) = slice-aggregate-put-words (second .before) in (
+      paste-two (a .out .now) _ _ 11 19 (a .f .sender) (a .f .places) (omega arith) (omega arith) (first .put-bytes .ensures) (second .put-words .ensures),
+      back-length (a .f) (sym o) (sym e),
+    )
 
 pub put-back-spec : {M : Type 1} → statement M
 put-back-spec =

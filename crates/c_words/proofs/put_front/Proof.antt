@@ -1,4 +1,4 @@
--- `words::put_front` meets its contract. Assumes nothing.
+-- Origin, event and five numbers are pasted one behind the other.
 use mathlib.Core.Path.{_≡_, sym}
 use Prim.Native.Nat.{ℕ, _+_, _≤_}
 use native.Mathlib.Omega.{arith}
@@ -22,7 +22,9 @@ slice-aggregate-put-bytes-2 : tie.Need-slice-aggregate-put-bytes-2
 slice-aggregate-put-bytes-2 c = search needs
 
 put-bytes-requires-2 : tie.Need-put-bytes-requires-2
-put-bytes-requires-2 c κs = omega (arith, slice-aggregate-put-bytes-2 c, c .before .before .before .before .put-bytes .kept, c .before .before .before .before .before .before .before .before .before .before .before .pre)
+put-bytes-requires-2 c κs =
+    let first = c .before .before .before .before in
+    omega (arith, slice-aggregate-put-bytes-2 c, first .put-bytes .kept, first .before .before .before .before .before .before .before .pre)
 
 slice-aggregate-put-words : tie.Need-slice-aggregate-put-words
 slice-aggregate-put-words c = search needs
@@ -36,11 +38,18 @@ same-length c = search needs
 returns : tie.Need-returns
 unfolding frontWords
 returns c =
-    let a = c .before .before .before .before .before .before .before .before .before .before .before .before .before .before .before .before .before .before .before .args in
-    let h : (11 ≤ length (a .out .now)) × (a .f .count ≤ 31) = c .before .before .before .before .before .before .before .before .before .before .before .before .before .before .before .before .before .before .before .pre in
-    let o : 3 ≡ length (a .f .origin) = slice-aggregate-put-bytes (c .before .before .before .before .before .before .before .before .before .before .before .before .before) in
-    let e : 3 ≡ length (a .f .event) = slice-aggregate-put-bytes-2 (c .before .before .before .before .before .before .before .before) in
-    (paste-three (a .out .now) _ _ _ 0 3 6 (a .f .origin) (a .f .event) (numbersOf (a .f)) (omega arith) (omega arith) (omega arith) (c .before .before .before .before .before .before .before .before .before .before .before .before .put-bytes .ensures) (c .before .before .before .before .before .before .before .put-bytes2 .ensures) (c .before .before .put-words .ensures), front-length (a .f) (sym o) (sym e))
+    let third = c .before .before in
+    let second = third .before .before .before .before .before in
+    let first = second .before .before .before .before .before in
+    let start = first .before .before .before .before .before .before .before in
+    let a = start .args in
+    let h : (11 ≤ length (a .out .now)) × (a .f .count ≤ 31) = start .pre in
+    let o : 3 ≡ length (a .f .origin) = slice-aggregate-put-bytes (first .before) in
+    let e : 3 ≡ length (a .f .event) = slice-aggregate-put-bytes-2 (second .before) in (
+      paste-three (a .out .now) _ _ _ 0 3 6 (a .f .origin) (a .f .event) (numbersOf (a .f)) (omega arith) (omega arith) (omega arith)
+          (first .put-bytes .ensures) (second .put-bytes2 .ensures) (third .put-words .ensures),
+      front-length (a .f) (sym o) (sym e),
+    )
 
 pub put-front-spec : {M : Type 1} → statement M
 put-front-spec =

@@ -1,4 +1,4 @@
--- `words::put_summary` meets its contract. Assumes nothing.
+-- The two stamps, the event and the rest are pasted one behind the other.
 use mathlib.Core.Path.{_≡_, sym, ap, _∙_}
 use Prim.Native.Nat.{ℕ, _+_, _≤_}
 use mathlib.Core.List.{List, _++_}
@@ -24,7 +24,10 @@ slice-aggregate-put-bytes : tie.Need-slice-aggregate-put-bytes
 slice-aggregate-put-bytes c = search needs
 
 put-bytes-requires : tie.Need-put-bytes-requires
-put-bytes-requires c κs = omega (arith, slice-aggregate-put-bytes c, c .before .before .before .before .put-words .kept, c .before .before .before .before .before .before .before .before .before .before .before .before .before .pre)
+put-bytes-requires c κs =
+    let first = c .before .before .before .before in
+    let rest = first .before .before .before in
+    omega (arith, slice-aggregate-put-bytes c, first .put-words .kept, rest .before .before .before .before .before .before .pre)
 
 slice-aggregate-put-words-2 : tie.Need-slice-aggregate-put-words-2
 slice-aggregate-put-words-2 c = search needs
@@ -38,12 +41,18 @@ same-length c = search needs
 returns : tie.Need-returns
 unfolding summaryWords
 returns c =
-    let a = c .before .before .before .before .before .before .before .before .before .before .before .before .before .before .before .before .before .before .before .before .before .args in
-    let h : 16 ≤ length (a .out .now) = c .before .before .before .before .before .before .before .before .before .before .before .before .before .before .before .before .before .before .before .before .before .pre in
-    let e : 3 ≡ length (a .s .event) = slice-aggregate-put-bytes (c .before .before .before .before .before .before .before .before) in
+    let third = c .before .before in
+    let second = third .before .before .before .before .before in
+    let first = second .before .before .before .before .before in
+    let rest = first .before .before .before in
+    let start = rest .before .before .before .before .before .before in
+    let a = start .args in
+    let h : 16 ≤ length (a .out .now) = start .pre in
+    let e : 3 ≡ length (a .s .event) = slice-aggregate-put-bytes (second .before) in
     let z : List ℕ = restWords (a .s) in
     let x : List ℕ = stampWords (a .s .times .issued) ++ stampWords (a .s .times .until) in
-    paste-three (a .out .now) _ _ _ 0 8 11 x (a .s .event) z (omega arith) (omega arith) (omega arith) (c .before .before .before .before .before .before .before .before .before .before .before .before .put-words .ensures) (c .before .before .before .before .before .before .before .put-bytes .ensures) (c .before .before .put-words2 .ensures ∙ ap (λ (l : List ℕ). pasted (c .before .before .before .before .before .before .before .put-bytes .last .0) 11 l) (c .before .before .before .before .before .before .before .before .before .before .before .before .before .before .before .rest-of .ensures))
+    paste-three (a .out .now) _ _ _ 0 8 11 x (a .s .event) z (omega arith) (omega arith) (omega arith) (first .put-words .ensures) (second .put-bytes .ensures)
+    (third .put-words2 .ensures ∙ ap (λ (l : List ℕ). pasted (second .put-bytes .last .0) 11 l) (rest .rest-of .ensures))
 
 pub put-summary-spec : {M : Type 1} → statement M
 put-summary-spec =

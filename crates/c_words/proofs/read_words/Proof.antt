@@ -1,4 +1,4 @@
--- `words::read_words` meets its contract. Assumes nothing.
+-- What was read is given as words, and what was refused is refused by its number and index.
 use native.Mathlib.Omega.{arith}
 use Rattle.header.proofs.Callers.{is-read, is-refused, read-count}
 use Rattle.c_words.proofs.Pastes.{hands-on, refuses}
@@ -25,10 +25,14 @@ same-length : tie.Need-same-length
 same-length c = search needs
 
 returns : tie.Need-returns
-returns c = hands-on _ _ _ _ (is-read (c .before .before .before .before .before .before .read .ensures) (c .before .before .before .before .enum-told .given .1)) (c .before .before .give .ensures)
+returns c =
+    let told = c .before .before .before .before in
+    hands-on _ _ _ _ (is-read (told .before .before .read .ensures) (told .enum-told .given .1)) (c .before .before .give .ensures)
 
 returns-2 : tie.Need-returns-2
-returns-2 c = refuses _ _ _ _ _ (is-refused (c .before .before .before .before .read .ensures) _ _ (c .before .before .verdict .given .1)) (c .answer .ensures .says)
+returns-2 c =
+    let known = c .before .before in
+    refuses _ _ _ _ _ (is-refused (known .before .before .read .ensures) _ _ (known .verdict .given .1)) (c .answer .ensures .says)
 
 pub read-words-spec : {M : Type 1} → statement M
 read-words-spec =

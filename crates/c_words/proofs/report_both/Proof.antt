@@ -1,4 +1,4 @@
--- `words::report_both` meets its contract. Assumes nothing.
+-- The report's answer decides: a granted one leaves its summary as words, a refused one its number alone.
 use mathlib.Core.Path.{_≡_, sym, _∙_}
 use lib.ListN.{length}
 use Rattle.report.proofs.Given.{answer-verdict, answer-summary}
@@ -40,24 +40,35 @@ same-length-2 c = search needs
 
 returns : tie.Need-returns
 returns c =
-    let a = c .before .before .before .before .before .before .before .before .before .before .before .before .before .before .before .before .args in
-    both-granted (a .book .now) (a .client) (a .header .now) (a .at) (length (a .hits .now)) (a .summary .now) (a .hits .now) _ _ _ _ (sym (answer-verdict _ (c .before .before .before .before .before .before .before .before .before .before .report .result) (c .before .before .before .before .before .before .before .before .before .before .report .ensures .says)) ∙ c .before .before .before .before .before .before .enum-told .given .1) (answer-summary _ (c .before .before .before .before .before .before .before .before .before .before .report .result) (c .before .before .before .before .before .before .before .before .before .before .report .ensures .says)) (packs-granted _ _ (c .answer .ensures .says)) (c .before .before .before .put-summary .ensures) (c .before .before .before .before .before .before .before .before .before .before .report .ensures .lent)
+    let told = c .before .before .before .before .before .before in
+    let made = told .before .before .before .before in
+    let a = made .before .before .before .before .before .before .args in
+    let said = answer-verdict _ (made .report .result) (made .report .ensures .says) in
+    both-granted (a .book .now) (a .client) (a .header .now) (a .at) (length (a .hits .now)) (a .summary .now) (a .hits .now) _ _ _ _
+    (sym said ∙ told .enum-told .given .1) (answer-summary _ (made .report .result) (made .report .ensures .says))
+    (packs-granted _ _ (c .answer .ensures .says)) (c .before .before .before .put-summary .ensures) (made .report .ensures .lent)
 
 same-length-3 : tie.Need-same-length-3
 same-length-3 c = search needs
 
 returns-2 : tie.Need-returns-2
 returns-2 c =
-    let a = c .before .before .before .before .before .before .before .before .before .before .before .before .args in
-    both-refused (a .book .now) (a .client) (a .header .now) (a .at) (length (a .hits .now)) (a .summary .now) (a .hits .now) _ _ _ (sym (answer-verdict _ (c .before .before .before .before .before .before .report .result) (c .before .before .before .before .before .before .report .ensures .says)) ∙ c .before .before .verdict .given .1) (packs-refused _ _ (c .answer2 .ensures .says)) (c .before .before .before .before .before .before .report .ensures .lent)
+    let made = c .before .before .before .before .before .before in
+    let a = made .before .before .before .before .before .before .args in
+    let said = answer-verdict _ (made .report .result) (made .report .ensures .says) in
+    both-refused (a .book .now) (a .client) (a .header .now) (a .at) (length (a .hits .now)) (a .summary .now) (a .hits .now) _ _ _
+    (sym said ∙ c .before .before .verdict .given .1) (packs-refused _ _ (c .answer2 .ensures .says)) (made .report .ensures .lent)
 
 same-length-4 : tie.Need-same-length-4
 same-length-4 c = search needs
 
 returns-3 : tie.Need-returns-3
 returns-3 c =
-    let a = c .before .before .before .before .before .before .before .before .before .before .before .before .args in
-    both-refused-at (a .book .now) (a .client) (a .header .now) (a .at) (length (a .hits .now)) (a .summary .now) (a .hits .now) _ _ _ _ (sym (answer-verdict _ (c .before .before .before .before .before .before .report .result) (c .before .before .before .before .before .before .report .ensures .says)) ∙ c .before .before .verdict2 .given .1) (packs-refused-at _ _ _ (c .answer3 .ensures .says)) (c .before .before .before .before .before .before .report .ensures .lent)
+    let made = c .before .before .before .before .before .before in
+    let a = made .before .before .before .before .before .before .args in
+    let said = answer-verdict _ (made .report .result) (made .report .ensures .says) in
+    both-refused-at (a .book .now) (a .client) (a .header .now) (a .at) (length (a .hits .now)) (a .summary .now) (a .hits .now) _ _ _ _
+    (sym said ∙ c .before .before .verdict2 .given .1) (packs-refused-at _ _ _ (c .answer3 .ensures .says)) (made .report .ensures .lent)
 
 pub report-both-spec : {M : Type 1} → statement M
 report-both-spec =

@@ -1,4 +1,4 @@
--- `words::report_words` meets its contract. Assumes nothing.
+-- 16 words for the summary, or none: the length lent decides which of the two reports is made.
 use native.Mathlib.Omega.{arith}
 use Rattle.c_words.proofs.Reported.{few-promise, all-promise}
 use borrow.Author.Needs.{needs}
@@ -22,8 +22,10 @@ same-length-2 c = search needs
 
 returns-2 : tie.Need-returns-2
 returns-2 c =
-    let a = c .before .before .before .before .before .before .before .before .before .before .before .before .args in
-    all-promise _ _ _ _ (a .summary .now) (a .hits .now) _ _ _ (omega arith) (c .before .before .before .before .report-both .ensures)
+    let made = c .before .before .before .before in
+    let passed = made .before .before .before .before in
+    let a = passed .before .before .before .before .args in
+    all-promise _ _ _ _ (a .summary .now) (a .hits .now) _ _ _ (omega arith) (made .report-both .ensures)
 
 pub report-words-spec : {M : Type 1} → statement M
 report-words-spec =

@@ -1,4 +1,4 @@
--- `words::three` meets its contract. Assumes nothing.
+-- Each byte is that of its word.
 use mathlib.Core.Path.{_≡_, refl, sym, ap, _∙_}
 use Prim.Native.Nat.{ℕ, suc, _+_, _-_, _*_, _≤_, _<_}
 use native.Mathlib.Omega.{arith}

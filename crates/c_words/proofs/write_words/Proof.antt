@@ -1,4 +1,4 @@
--- `words::write_words` meets its contract. Assumes nothing.
+-- Fewer than 50 words of fields are 13; else the writer answers for the fields that they say.
 use native.Mathlib.Omega.{arith}
 use Rattle.c_words.proofs.Pastes.{writes-few, writes-all}
 use borrow.Author.Needs.{needs}
@@ -24,7 +24,11 @@ same-length : tie.Need-same-length
 same-length c = search needs
 
 returns-2 : tie.Need-returns-2
-returns-2 c = writes-all (c .before .before .before .before .before .before .before .before .before .args .fields .now) (c .before .before .before .before .before .before .before .before .before .args .out .now) _ _ (omega arith) (c .before .before .before .before .before .fields-in .ensures) (c .before .before .before .write .ensures) (c .wrote .ensures .says)
+returns-2 c =
+    let taken = c .before .before .before .before .before in
+    let a = taken .before .before .before .before .args in
+    writes-all (a .fields .now) (a .out .now) _ _ (omega arith)
+    (taken .fields-in .ensures) (c .before .before .before .write .ensures) (c .wrote .ensures .says)
 
 pub write-words-spec : {M : Type 1} → statement M
 write-words-spec =

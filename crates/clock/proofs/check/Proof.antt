@@ -1,4 +1,4 @@
--- `clock::check` meets its contract. Assumes nothing.
+-- Whether the clock is in range decides between good and 15.
 use mathlib.Core.Path.{_≡_, sym, _∙_}
 use mathlib.Core.Bool.{true, false}
 use borrow.Author.Needs.{needs}

@@ -1,4 +1,4 @@
--- `clock::date_of` meets its contract. Assumes nothing.
+-- The test that the year has the day is what the look at the calendar asks for; where it fails the number is 14.
 use mathlib.Core.Path.{_≡_, sym, ap, _∙_}
 use mathlib.Core.Bool.{true, false}
 use borrow.Author.Needs.{needs}

@@ -1,6 +1,6 @@
--- `clock::is_clock` meets its contract: the tests are tried in the order of the definition. Assumes nothing.
+-- The tests are tried in the order of the definition, and each that was passed falls out of it.
 use mathlib.Core.Path.{_≡_, sym, _∙_}
-use mathlib.Core.Bool.{true, false}
+use mathlib.Core.Bool.{true, false, and-false}
 use borrow.Author.Needs.{needs}
 use native.Mathlib.Omega.{arith}
 use borrow.Author.Tests.{le-leb, lt-leb, not-true, not-false}
@@ -26,22 +26,22 @@ unfolding isClock
 returns-3 c =
     let a = c .before .before .before .before .before .before .args .at in
     let h : hasDay (a .year) (a .day) ≡ false = sym (c .before .has-day .ensures) ∙ not-true (c .before .has-day .result) (c .if3 .taken) in
-    simp (le-leb 1996 (a .year) (omega arith), le-leb (a .year) 2099 (omega arith), h)
+    simp (h, and-false)
 
 returns-4 : tie.Need-returns-4
 unfolding isClock
 returns-4 c =
-    let a = c .before .before .before .before .before .before .before .before .args .at in
-    let d = c .before .before .before .has-day in
-    let h : hasDay (a .year) (a .day) ≡ true = sym (d .ensures) ∙ not-false (d .result) (c .before .before .if3 .left) in
-    simp (le-leb 1996 (a .year) (omega arith), le-leb (a .year) 2099 (omega arith), h, lt-leb (a .hour) 23 (omega arith))
+    let there = c .before .before in
+    let a = there .before .before .before .before .before .before .args .at in
+    simp (lt-leb (a .hour) 23 (omega arith), and-false)
 
 returns-5 : tie.Need-returns-5
 unfolding isClock
 returns-5 c =
-    let a = c .before .before .before .before .before .before .before .before .before .args .at in
-    let d = c .before .before .before .before .has-day in
-    let h : hasDay (a .year) (a .day) ≡ true = sym (d .ensures) ∙ not-false (d .result) (c .before .before .before .if3 .left) in
+    let there = c .before .before .before in
+    let a = there .before .before .before .before .before .before .args .at in
+    let d = there .before .has-day in
+    let h : hasDay (a .year) (a .day) ≡ true = sym (d .ensures) ∙ not-false (d .result) (there .if3 .left) in
     simp (le-leb 1996 (a .year) (omega arith), le-leb (a .year) 2099 (omega arith), h, le-leb (a .hour) 23 (omega arith))
 
 pub is-clock-spec : {M : Type 1} → statement M

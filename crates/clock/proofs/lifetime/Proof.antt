@@ -1,9 +1,9 @@
--- `clock::lifetime` meets its contract. Assumes nothing.
+-- Where nothing was refused the four conditions are met, so the minutes can be counted; else the number is handed on.
 use mathlib.Core.Path.{_≡_, sym, ap, _∙_}
 use Prim.Native.Nat.{ℕ}
 use borrow.Author.Needs.{needs}
-use Rattle.laws.specs.Order.{granted}
-use Rattle.clock.specs.Lifetime.{minuteOf, stateOf}
+use Rattle.laws.specs.Order.{Said, granted}
+use Rattle.clock.specs.Lifetime.{minuteOf, phaseOf}
 use Rattle.clock.specs.Answers.{asked, saidChecked}
 use Rattle.clock.specs.Steps.{Fit}
 use Rattle.clock.proofs.Ranges.{issue-of-year}
@@ -12,13 +12,17 @@ use Rattle.clock.proofs.Asking.{fit, lifetime-refused, lifetime-granted
 use Rattle.clock.proofs.lifetime.Statement.{statement}
 use Rattle.clock.proofs.lifetime.Tie as tie
 
-told : (c : tie.After-enum-told)
-    → asked (c .before .before .before .args .at) (c .before .before .before .args .day) (c .before .before .before .args .hour) (c .before .before .before .args .minute) (c .before .before .before .args .duration)
-    ≡ granted tt
+-- what is asked of the arguments, and that nothing was refused
+abbrev asks : tie.After-enum-told → Said (Unit {0})
+asks c = let a = c .before .before .before .args in asked (a .at) (a .day) (a .hour) (a .minute) (a .duration)
+
+told : (c : tie.After-enum-told) → asks c ≡ granted tt
 told c = sym (c .before .before .refusal .ensures) ∙ ap saidChecked (c .enum-told .given .1)
 
-known : (c : tie.After-enum-told)
-    → Fit (c .before .before .before .args .at) (c .before .before .before .args .day) (c .before .before .before .args .hour) (c .before .before .before .args .minute) (c .before .before .before .args .duration)
+abbrev Fits : tie.After-enum-told → Type 0
+Fits c = let a = c .before .before .before .args in Fit (a .at) (a .day) (a .hour) (a .minute) (a .duration)
+
+known : (c : tie.After-enum-told) → Fits c
 known c =
     let a = c .before .before .before .args in
     fit (a .at) (a .day) (a .hour) (a .minute) (a .duration) (told c)
@@ -34,8 +38,8 @@ minute-of-requires c κs =
     let a = c .before .before .before .args in
     issue-of-year (a .day) (a .hour) (a .minute) (known c .issue)
 
-state-at-requires : tie.Need-state-at-requires
-state-at-requires c κs = known (c .before) .clock
+phase-at-requires : tie.Need-phase-at-requires
+phase-at-requires c κs = known (c .before) .clock
 
 enum-known-n : tie.Need-enum-known-n
 enum-known-n c = search needs
@@ -43,8 +47,8 @@ enum-known-n c = search needs
 returns : tie.Need-returns
 returns c =
     let a = c .before .before .before .before .before .args in
-    let s = c .state-at .ensures
-    ∙ ap (λ (m : ℕ). stateOf m (a .duration) (minuteOf (a .at .day) (a .at .hour) (a .at .minute))) (c .before .minute-of .ensures .is)
+    let s = c .phase-at .ensures
+    ∙ ap (λ (m : ℕ). phaseOf m (a .duration) (minuteOf (a .at .day) (a .at .hour) (a .at .minute))) (c .before .minute-of .ensures .is)
     ∙ in-that-year (a .at) (a .day) (a .hour) (a .minute) (a .duration) in
     record { says = ap granted s ∙ sym (lifetime-granted (a .at) (a .day) (a .hour) (a .minute) (a .duration) (told (c .before .before))) }
 
@@ -62,7 +66,7 @@ lifetime-spec =
     refusal-requires
     enum-told
     minute-of-requires
-    state-at-requires
+    phase-at-requires
     enum-known-n
     returns
     returns-2)

@@ -1,4 +1,4 @@
--- `clock::refusal` meets its contract: each test that was passed is known, and the number is that of the first that fails. Assumes nothing.
+-- Each test that was passed is known, and the number is that of the first that fails.
 use mathlib.Core.Path.{_≡_, sym, ap, _∙_}
 use mathlib.Core.Bool.{true}
 use Prim.Native.Nat.{ℕ}
@@ -22,7 +22,8 @@ is-clock-requires c κs = search needs
 returns : tie.Need-returns
 returns c =
     let a = c .before .before .args in
-    sym (asked-15 (a .at) (a .day) (a .hour) (a .minute) (a .duration) (sym (c .before .is-clock .ensures) ∙ not-true (c .before .is-clock .result) (c .if1 .taken)))
+    let clock = c .before .is-clock in
+    sym (asked-15 (a .at) (a .day) (a .hour) (a .minute) (a .duration) (sym (clock .ensures) ∙ not-true (clock .result) (c .if1 .taken)))
 
 is-duration-requires : tie.Need-is-duration-requires
 is-duration-requires c κs = search needs
@@ -38,11 +39,16 @@ is-issue-requires c κs = search needs
 
 returns-3 : tie.Need-returns-3
 returns-3 c =
-    let a = c .before .before .before .before .before .before .args in
-    sym (asked-10 (a .at) (a .day) (a .hour) (a .minute) (a .duration) (passed-clock (c .before .before .before .before)) (passed-duration (c .before .before))
+    let second = c .before .before in
+    let first = second .before .before in
+    let a = first .before .before .args in
+    sym (asked-10 (a .at) (a .day) (a .hour) (a .minute) (a .duration) (passed-clock first) (passed-duration second)
     (sym (c .before .is-issue .ensures .says) ∙ not-true (c .before .is-issue .result) (c .if3 .taken)))
 
-passed-issue : (c : tie.Else3) → isIssue (c .before .before .before .before .before .before .args .day) (c .before .before .before .before .before .before .args .hour) (c .before .before .before .before .before .before .args .minute) ≡ true
+abbrev start : tie.Else3 → tie.Start
+start c = c .before .before .before .before .before .before
+
+passed-issue : (c : tie.Else3) → isIssue (start c .args .day) (start c .args .hour) (start c .args .minute) ≡ true
 passed-issue c = sym (c .before .is-issue .ensures .says) ∙ not-false (c .before .is-issue .result) (c .if3 .left)
 
 year-of-requires : tie.Need-year-of-requires
@@ -53,19 +59,29 @@ has-day-requires c κs = search needs
 
 returns-4 : tie.Need-returns-4
 returns-4 c =
-    let a = c .before .before .before .before .before .before .before .before .before .args in
-    sym (asked-14 (a .at) (a .day) (a .hour) (a .minute) (a .duration) (passed-clock (c .before .before .before .before .before .before .before)) (passed-duration (c .before .before .before .before .before)) (passed-issue (c .before .before .before))
-    (ap (λ (y : ℕ). hasDay y (a .day)) (sym (c .before .before .year-of .ensures)) ∙ sym (c .before .has-day .ensures) ∙ not-true (c .before .has-day .result) (c .if4 .taken)))
+    let third = c .before .before .before in
+    let second = third .before .before in
+    let first = second .before .before in
+    let a = first .before .before .args in
+    let year = c .before .before .year-of in
+    let day = c .before .has-day in
+    sym (asked-14 (a .at) (a .day) (a .hour) (a .minute) (a .duration) (passed-clock first) (passed-duration second) (passed-issue third)
+    (ap (λ (y : ℕ). hasDay y (a .day)) (sym (year .ensures)) ∙ sym (day .ensures) ∙ not-true (day .result) (c .if4 .taken)))
 
 returns-5 : tie.Need-returns-5
 returns-5 c =
-    let a = c .before .before .before .before .before .before .before .before .before .args in
+    let year = c .before .before .year-of in
+    let day = c .before .has-day in
+    let third = c .before .before .before in
+    let second = third .before .before in
+    let first = second .before .before in
+    let a = first .before .before .args in
     sym (asked-fit (a .at) (a .day) (a .hour) (a .minute) (a .duration)
     (record {
-      clock = passed-clock (c .before .before .before .before .before .before .before);
-      lasts = passed-duration (c .before .before .before .before .before);
-      issue = passed-issue (c .before .before .before);
-      exists = ap (λ (y : ℕ). hasDay y (a .day)) (sym (c .before .before .year-of .ensures)) ∙ sym (c .before .has-day .ensures) ∙ not-false (c .before .has-day .result) (c .if4 .left);
+      clock = passed-clock first;
+      lasts = passed-duration second;
+      issue = passed-issue third;
+      exists = ap (λ (y : ℕ). hasDay y (a .day)) (sym (year .ensures)) ∙ sym (day .ensures) ∙ not-false (day .result) (c .if4 .left);
     }))
 
 pub refusal-spec : {M : Type 1} → statement M

@@ -1,4 +1,4 @@
--- `clock::stamp_in` meets its contract. Assumes nothing.
+-- The minutes reach at most into the following year, so the day they fall on is there.
 use mathlib.Core.Path.{ap, _∙_}
 use borrow.Author.Needs.{needs}
 use native.Mathlib.Omega.{arith}

@@ -1,4 +1,4 @@
--- `clock::stamp_of` meets its contract. Assumes nothing.
+-- Month and day are the calendar's, hour and minute the time's own.
 use mathlib.Core.Path.{_≡_}
 use borrow.Author.Needs.{needs}
 use Rattle.clock.specs.Calendar.{dateOf}

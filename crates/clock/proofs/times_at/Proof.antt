@@ -1,10 +1,10 @@
--- `clock::times_at` meets its contract: the year is the header's, and its minutes are counted once. Assumes nothing.
+-- The year is the header's, and its minutes are counted once, for the end and for the phase.
 use mathlib.Core.Path.{_≡_, ap, _∙_}
 use Prim.Native.Nat.{ℕ, _+_}
 use native.Mathlib.Omega.{arith}
 use borrow.Author.Needs.{needs}
 use Rattle.clock.specs.Clock.{hasDay}
-use Rattle.clock.specs.Lifetime.{yearOf, minuteOf, stateOf, stampOf, timeIn, timesOf, issueOf, untilOf, lifetimeOf}
+use Rattle.clock.specs.Lifetime.{yearOf, minuteOf, phaseOf, stampOf, timeIn, timesOf, issueOf, untilOf, lifetimeOf}
 use Rattle.header.proofs.Callers.{duration-bounds}
 use Rattle.clock.proofs.Ranges.{issue-of-year, clock-year}
 use Rattle.clock.proofs.Moments.{year-is, in-that-year}
@@ -36,24 +36,26 @@ stamp-in-requires c κs =
     let e = c .before .before .year-of .ensures ∙ year-is (a .at) (a .day) (a .hour) (a .minute) in
     (omega (arith, clock-year (a .at) (p .clock), e), omega (arith, c .before .minute-of .ensures .low, d))
 
-state-at-requires : tie.Need-state-at-requires
-state-at-requires c κs = search needs
+phase-at-requires : tie.Need-phase-at-requires
+phase-at-requires c κs = search needs
 
 returns : tie.Need-returns
 unfolding timesOf
 returns c =
     let a = c .before .before .before .before .before .args in
-    let y : c .before .before .before .before .year-of .result ≡ yearOf (a .at) (a .day) (a .hour) (a .minute) = c .before .before .before .before .year-of .ensures in
-    let m : c .before .before .before .minute-of .result ≡ minuteOf (a .day) (a .hour) (a .minute) = c .before .before .before .minute-of .ensures .is in
+    let year = c .before .before .before .before .year-of in
+    let minutes = c .before .before .before .minute-of in
+    let y : year .result ≡ yearOf (a .at) (a .day) (a .hour) (a .minute) = year .ensures in
+    let m : minutes .result ≡ minuteOf (a .day) (a .hour) (a .minute) = minutes .ensures .is in
     let i : c .before .before .stamp-of .result ≡ stampOf (issueOf (a .at) (a .day) (a .hour) (a .minute)) =
     c .before .before .stamp-of .ensures ∙ ap (λ (n : ℕ). stampOf (record { year = n; day = a .day; hour = a .hour; minute = a .minute })) y in
     let u : c .before .stamp-in .result ≡ stampOf (untilOf (a .at) (a .day) (a .hour) (a .minute) (a .duration)) =
     c .before .stamp-in .ensures ∙ (λ q. stampOf (timeIn (y q) (m q + a .duration))) in
-    let s : c .state-at .result ≡ lifetimeOf (a .at) (a .day) (a .hour) (a .minute) (a .duration) =
-    c .state-at .ensures
-    ∙ ap (λ (n : ℕ). stateOf n (a .duration) (minuteOf (a .at .day) (a .at .hour) (a .at .minute))) m
+    let s : c .phase-at .result ≡ lifetimeOf (a .at) (a .day) (a .hour) (a .minute) (a .duration) =
+    c .phase-at .ensures
+    ∙ ap (λ (n : ℕ). phaseOf n (a .duration) (minuteOf (a .at .day) (a .at .hour) (a .at .minute))) m
     ∙ in-that-year (a .at) (a .day) (a .hour) (a .minute) (a .duration) in
-    λ q. record { issued = i q; until = u q; state = s q }
+    λ q. record { issued = i q; until = u q; phase = s q }
 
 pub times-at-spec : {M : Type 1} → statement M
 times-at-spec =
@@ -64,5 +66,5 @@ times-at-spec =
     stamp-of-requires
     add-stamp-in
     stamp-in-requires
-    state-at-requires
+    phase-at-requires
     returns)

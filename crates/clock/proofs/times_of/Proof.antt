@@ -1,15 +1,17 @@
--- `clock::times_of` meets its contract. Assumes nothing.
+-- Where nothing was refused the four conditions are met, which the times ask for; else the number is handed on.
 use mathlib.Core.Path.{_≡_, sym, ap, _∙_}
 use borrow.Author.Needs.{needs}
-use Rattle.laws.specs.Order.{granted}
+use Rattle.laws.specs.Order.{Said, granted}
 use Rattle.clock.specs.Answers.{asked, saidChecked}
 use Rattle.clock.proofs.Asking.{fit, times-refused, times-granted}
 use Rattle.clock.proofs.times_of.Statement.{statement}
 use Rattle.clock.proofs.times_of.Tie as tie
 
-told : (c : tie.After-enum-told)
-    → asked (c .before .before .before .args .at) (c .before .before .before .args .day) (c .before .before .before .args .hour) (c .before .before .before .args .minute) (c .before .before .before .args .duration)
-    ≡ granted tt
+-- what is asked of the arguments, and that nothing was refused
+abbrev asks : tie.After-enum-told → Said (Unit {0})
+asks c = let a = c .before .before .before .args in asked (a .at) (a .day) (a .hour) (a .minute) (a .duration)
+
+told : (c : tie.After-enum-told) → asks c ≡ granted tt
 told c = sym (c .before .before .refusal .ensures) ∙ ap saidChecked (c .enum-told .given .1)
 
 refusal-requires : tie.Need-refusal-requires

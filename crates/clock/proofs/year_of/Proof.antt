@@ -1,4 +1,4 @@
--- `clock::year_of` meets its contract. Assumes nothing.
+-- The header's year is the clock's, by definition.
 use mathlib.Core.Path.{refl}
 use Rattle.clock.specs.Lifetime.{yearOf}
 use Rattle.clock.proofs.year_of.Statement.{statement}

@@ -1,4 +1,4 @@
--- `codec::between` meets its contract. Assumes nothing.
+-- The first test, then the second, is the test of both.
 use borrow.Author.Tests.{le-leb, lt-leb}
 use Rattle.codec.proofs.between.Statement.{statement}
 use Rattle.codec.proofs.between.Tie as tie

@@ -1,5 +1,4 @@
--- `codec::digits_at` meets its contract. The invariant: what the bytes that are left say, from the number so far, is what all of
--- them say. Assumes nothing.
+-- What the bytes that are left say, from the number so far, is what all of them say.
 use Prim.Native.Nat.{ℕ, _+_, _-_, _*_, _^_, _≤_, _<_}
 use mathlib.Core.Path.{_≡_, refl, sym, ap, _∙_}
 use mathlib.Core.List.{List, [], _∷_}
@@ -50,7 +49,7 @@ abbrev μ-loop : tie.MeasureT-loop
 μ-loop text at width n₀ k₀ n k = width - k
 
 returns : tie.Need-returns Inv-loop μ-loop
-returns c = record { says = too-wide _ _ _ (c .if1 .taken) }
+returns c = record { says = too-wide _ _ _ (omega arith) }
 
 returns-2 : tie.Need-returns-2 Inv-loop μ-loop
 returns-2 c = record { says = too-short _ _ _ (omega arith) }
@@ -78,8 +77,10 @@ returns-4 c =
     let u = c .before .before .before in
     let a = u .before .before .before .before .before .before .args in
     let k = u .before .loop .k in
-    let d : within 48 57 (getD (a .text .now) (a .at + k) 0) ≡ false = sym (c .before .between .ensures .says) ∙ not-true (c .before .between .result) (c .if4 .taken) in
-    record { says = not-digits _ _ _ (turn-bad _ _ _ _ _ (part-cut (a .text .now) (a .at) (a .width) k (omega arith) (u .loop-test .taken)) (u .before .loop .inv) d) }
+    let asked = c .before .between in
+    let d : within 48 57 (getD (a .text .now) (a .at + k) 0) ≡ false = sym (asked .ensures .says) ∙ not-true (asked .result) (c .if4 .taken) in
+    let cut = part-cut (a .text .now) (a .at) (a .width) k (omega arith) (u .loop-test .taken) in
+    record { says = not-digits _ _ _ (turn-bad _ _ _ _ _ cut (u .before .loop .inv) d) }
 
 -- a number of fewer than nine digits
 small : (k w n : ℕ) → k < w → w ≤ 9 → n < 10 ^ k → n < 100000000
@@ -88,12 +89,17 @@ small k w n h l s = omega (arith, pow-le-pow-right {n = 10} (omega arith) {i = k
 mul-n : tie.Need-mul-n Inv-loop μ-loop
 mul-n c =
     let u = c .before .before .before in
-    omega (arith, small (u .before .loop .k) (u .before .before .before .before .before .before .args .width) (u .before .loop .n) (u .loop-test .taken) (omega arith) (u .before .loop .inv .small))
+    let l = u .before .loop in
+    let a = u .before .before .before .before .before .before .args in
+    omega (arith, small (l .k) (a .width) (l .n) (u .loop-test .taken) (omega arith) (l .inv .small))
 
 wide-requires : tie.Need-wide-requires Inv-loop μ-loop
 wide-requires c κs = search needs
 
-is-digit : (c : tie.Else4 Inv-loop μ-loop) → within 48 57 (getD (c .before .before .before .before .before .before .before .before .before .args .text .now) (c .before .before .before .before .before .before .before .before .before .args .at + c .before .before .before .before .loop .k) 0) ≡ true
+is-digit : (c : tie.Else4 Inv-loop μ-loop) →
+    let turn = c .before .before .before .before in
+    let a = turn .before .before .before .before .before .args in
+    within 48 57 (getD (a .text .now) (a .at + turn .loop .k) 0) ≡ true
 is-digit c = sym (c .before .between .ensures .says) ∙ not-false (c .before .between .result) (c .if4 .left)
 
 bounds : (c : tie.After-wide Inv-loop μ-loop) → (48 ≤ c .wide .result) × (c .wide .result ≤ 57)
@@ -105,7 +111,9 @@ sub-n c = omega (arith, bounds c)
 add-n : tie.Need-add-n Inv-loop μ-loop
 add-n c =
     let u = c .before .before .before .before in
-    omega (arith, bounds c, small (u .before .loop .k) (u .before .before .before .before .before .before .args .width) (u .before .loop .n) (u .loop-test .taken) (omega arith) (u .before .loop .inv .small))
+    let l = u .before .loop in
+    let a = u .before .before .before .before .before .before .args in
+    omega (arith, bounds c, small (l .k) (a .width) (l .n) (u .loop-test .taken) (omega arith) (l .inv .small))
 
 add-k : tie.Need-add-k Inv-loop μ-loop
 add-k c = omega arith
@@ -118,12 +126,14 @@ loop-again c =
     let u = c .before .before .before .before in
     let a = u .before .before .before .before .before .before .args in
     let k = u .before .loop .k in
-    rw (c .wide .ensures) (turn-good _ _ _ _ _ (part-cut (a .text .now) (a .at) (a .width) k (omega arith) (u .loop-test .taken)) (u .before .loop .inv) (u .loop-test .taken) (is-digit (c .before)))
+    let cut = part-cut (a .text .now) (a .at) (a .width) k (omega arith) (u .loop-test .taken) in
+    rw (c .wide .ensures) (turn-good _ _ _ _ _ cut (u .before .loop .inv) (u .loop-test .taken) (is-digit (c .before)))
 
 returns-5 : tie.Need-returns-5 Inv-loop μ-loop
 returns-5 c =
     let a = c .before .before .before .before .before .before .args in
-    let d = done (take (a .width) (drop (a .at) (a .text .now))) (a .width) _ _ (length-part (a .text .now) (a .at) (a .width) (omega arith)) (c .loop-test .left) (c .before .loop .inv) in
+    let part = take (a .width) (drop (a .at) (a .text .now)) in
+    let d = done part (a .width) _ _ (length-part (a .text .now) (a .at) (a .width) (omega arith)) (c .loop-test .left) (c .before .loop .inv) in
     record { says = a-number (a .text .now) (a .at) (a .width) _ (omega arith) (omega arith) (d .0) (d .1) }
 
 pub digits-at-spec : {M : Type 1} → statement M

@@ -1,4 +1,4 @@
--- `codec::put_bytes` meets its contract: what is left to write, pasted at its index, gives the whole. Assumes nothing.
+-- What is left to write, pasted at its index, gives the whole.
 use Prim.Native.Nat.{ℕ, _+_, _-_, _≤_, _<_}
 use mathlib.Core.Path.{_≡_, ap, _∙_}
 use mathlib.Core.List.{[], _∷_, _++_}
@@ -9,7 +9,7 @@ use lib.ListN.{length, getD, drop}
 use lib.Seq.{drop-cons, drop-length}
 use Rattle.laws.specs.Space.{pasted}
 use Rattle.laws.proofs.Pasted.{Todo, todo, step, done, pasted-one}
-use Rattle.codec.proofs.Puts.{fits-put, put-not}
+use Rattle.codec.proofs.Puts.{put-yes, put-no}
 use Rattle.codec.proofs.put_bytes.Statement.{statement}
 use Rattle.codec.proofs.put_bytes.Tie as tie
 
@@ -20,13 +20,13 @@ abbrev μ-loop : tie.MeasureT-loop
 μ-loop out₀ at src k₀ out k = length src - k
 
 returns : tie.Need-returns Inv-loop μ-loop
-returns c = put-not _ _ _ (omega arith)
+returns c = put-no _ _ _ (omega arith)
 
 sub-if2 : tie.Need-sub-if2 Inv-loop μ-loop
 sub-if2 c = omega arith
 
 returns-2 : tie.Need-returns-2 Inv-loop μ-loop
-returns-2 c = put-not _ _ _ (omega arith)
+returns-2 c = put-no _ _ _ (omega arith)
 
 loop-holds : tie.Need-loop-holds Inv-loop μ-loop
 loop-holds c = (omega arith, rw add-zero (todo _ _ _ (omega arith)))
@@ -53,10 +53,8 @@ loop-again c =
     let x : ℕ = getD (a .src .now) (l .k) 0 in
     let h : l .k < length (a .src .now) = c .before .loop-test .taken in
     let e : drop (l .k) (a .src .now) ≡ (x ∷ []) ++ drop (l .k + 1) (a .src .now) = drop-cons (a .src .now) (l .k) 0 h ∙ rw add-one in
-    (omega arith, step _ _ (l .out) (a .at + l .k) _ (l .inv .1) (x ∷ []) (drop (l .k + 1) (a .src .now)) _ (a .at + (l .k + 1)) e (pasted-one (l .out) (a .at + l .k) x (omega (arith, l .inv .1 .len))) (omega arith))
-
-add-result : tie.Need-add-result Inv-loop μ-loop
-add-result c = omega arith
+    let one = pasted-one (l .out) (a .at + l .k) x (omega (arith, l .inv .1 .len)) in
+    (omega arith, step _ _ (l .out) (a .at + l .k) _ (l .inv .1) (x ∷ []) (drop (l .k + 1) (a .src .now)) _ (a .at + (l .k + 1)) e one (omega arith))
 
 same-length : tie.Need-same-length Inv-loop μ-loop
 same-length c = c .before .loop .inv .1 .len
@@ -67,7 +65,7 @@ returns-3 c =
     let a = c .before .before .before .before .args in
     let z : l .k ≡ length (a .src .now) = omega arith in
     let n : drop (l .k) (a .src .now) ≡ [] = ap (λ (m : ℕ). drop m (a .src .now)) z ∙ drop-length (a .src .now) in
-    fits-put (omega arith) (record { space = done _ _ _ _ (rw n at (l .inv .1)); next = ap (λ (m : ℕ). a .at + m) z })
+    put-yes (omega arith) (done _ _ _ _ (rw n at (l .inv .1)))
 
 pub put-bytes-spec : {M : Type 1} → statement M
 put-bytes-spec =
@@ -85,6 +83,5 @@ put-bytes-spec =
     add-k
     loop-less
     loop-again
-    add-result
     same-length
     returns-3)

@@ -1,9 +1,8 @@
--- `codec::put_count` meets its contract: what is left to write, pasted at its index, gives the whole. Assumes nothing.
-use Prim.Native.Nat.{ℕ, _+_}
-use mathlib.Core.Path.{refl, sym, ap}
+-- What is left to write, pasted at its index, gives the whole.
+use mathlib.Core.Path.{refl}
 use native.Mathlib.Omega.{arith}
 use Rattle.laws.proofs.Decimal.{Digits, digit-turn, digits-done, length-dig}
-use Rattle.codec.proofs.Puts.{fits-put, put-not}
+use Rattle.codec.proofs.Puts.{put-yes, put-no}
 use Rattle.codec.proofs.put_count.Statement.{statement}
 use Rattle.codec.proofs.put_count.Tie as tie
 
@@ -14,13 +13,13 @@ abbrev μ-loop : tie.MeasureT-loop
 μ-loop out₀ at n width v₀ k₀ out v k = k
 
 returns : tie.Need-returns Inv-loop μ-loop
-returns c = put-not _ _ _ (omega (arith, length-dig (c .before .args .width) (c .before .args .n)))
+returns c = put-no _ _ _ (omega (arith, length-dig (c .before .args .width) (c .before .args .n)))
 
 sub-if2 : tie.Need-sub-if2 Inv-loop μ-loop
 sub-if2 c = omega arith
 
 returns-2 : tie.Need-returns-2 Inv-loop μ-loop
-returns-2 c = put-not _ _ _ (omega (arith, length-dig (c .before .before .args .width) (c .before .before .args .n)))
+returns-2 c = put-no _ _ _ (omega (arith, length-dig (c .before .before .args .width) (c .before .before .args .n)))
 
 loop-holds : tie.Need-loop-holds Inv-loop μ-loop
 loop-holds c = record { low = omega arith; len = refl; same = refl }
@@ -46,17 +45,13 @@ loop-less c = omega arith
 loop-again : tie.Need-loop-again Inv-loop μ-loop
 loop-again c = digit-turn _ _ _ _ _ _ _ (c .loop-test .taken) (omega arith) (c .before .loop .inv)
 
-add-result : tie.Need-add-result Inv-loop μ-loop
-add-result c = omega arith
-
 same-length : tie.Need-same-length Inv-loop μ-loop
 same-length c = c .before .loop .inv .len
 
 returns-3 : tie.Need-returns-3 Inv-loop μ-loop
 returns-3 c =
     let a = c .before .before .before .before .args in
-    fits-put (omega (arith, length-dig (a .width) (a .n)))
-    (record { space = digits-done _ _ _ _ _ _ _ (c .loop-test .left) (c .before .loop .inv); next = ap (λ (m : ℕ). a .at + m) (sym (length-dig (a .width) (a .n))) })
+    put-yes (omega (arith, length-dig (a .width) (a .n))) (digits-done _ _ _ _ _ _ _ (c .loop-test .left) (c .before .loop .inv))
 
 pub put-count-spec : {M : Type 1} → statement M
 put-count-spec =
@@ -75,6 +70,5 @@ put-count-spec =
     slice-write-out
     loop-less
     loop-again
-    add-result
     same-length
     returns-3)

@@ -1,4 +1,4 @@
--- `codec::put_digits` meets its contract. Assumes nothing.
+-- The same number in a wider word: what put_count promises is what is asked.
 use borrow.Author.Needs.{needs}
 use Rattle.codec.proofs.put_digits.Statement.{statement}
 use Rattle.codec.proofs.put_digits.Tie as tie

@@ -1,4 +1,4 @@
--- `codec::same` meets its contract. Assumes nothing.
+-- The bytes before k are the same, so those from k on decide.
 use Prim.Native.Nat.{_-_}
 use mathlib.Core.Path.{refl, sym}
 use native.Mathlib.Omega.{arith}

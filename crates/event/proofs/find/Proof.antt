@@ -1,4 +1,4 @@
--- `event::find` meets its contract: the table is the list of words, which antt computes. Assumes nothing.
+-- The table is the list of words, which antt computes.
 use mathlib.Core.Path.{refl}
 use Rattle.event.specs.Events.{events}
 use Rattle.event.specs.Steps.{codes}

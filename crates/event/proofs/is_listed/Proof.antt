@@ -1,4 +1,4 @@
--- `event::is_listed` meets its contract. Assumes nothing.
+-- What the search finds stands below 61 exactly where the code is listed.
 use borrow.Author.Needs.{needs}
 use Rattle.event.proofs.is_listed.Statement.{statement}
 use Rattle.event.proofs.is_listed.Tie as tie

@@ -1,5 +1,6 @@
--- `event::look` meets its contract. The loop's invariant: the rows that are left say whether the code is listed. Assumes nothing.
+-- The loop's invariant: the rows that are left say whether the code is listed.
 use mathlib.Core.Path.{_≡_, sym, ap, _∙_}
+use mathlib.Core.Bool.{Bool}
 use mathlib.Core.List.{List, []}
 use Prim.Native.Nat.{ℕ, _-_, _≤_, _<_}
 use native.Mathlib.Omega.{arith}
@@ -13,11 +14,13 @@ use Rattle.event.proofs.Search.{count, begun, found, passed, ended}
 use Rattle.event.proofs.look.Statement.{statement}
 use Rattle.event.proofs.look.Tie as tie
 
--- row k of the table is row k of the list
-row-is : (rows : List (List ℕ)) (d : List ℕ) (k a b c : ℕ) → rows ≡ codes → k < 61 → spells (getD codes k []) a b c ≡ spells (getD rows k d) a b c
-row-is rows d k a b c e h =
+-- row k of the table is row k of the list, so what a look at it says is said of the list's row
+row-is : (rows : List (List ℕ)) (d : List ℕ) (k a b c : ℕ) (r s : Bool)
+    → rows ≡ codes → k < 61 → r ≡ spells (getD rows k d) a b c → r ≡ s → spells (getD codes k []) a b c ≡ s
+row-is rows d k a b c r s e h q t =
     let l : k < length codes = rw count h in
-    ap (λ (x : List ℕ). spells x a b c) (sym (ap (λ (r : List (List ℕ)). getD r k d) e ∙ other-end d [] codes k l))
+    let x : getD rows k d ≡ getD codes k [] = ap (λ (r : List (List ℕ)). getD r k d) e ∙ other-end d [] codes k l in
+    sym (q ∙ ap (λ (x : List ℕ). spells x a b c) x) ∙ t
 
 abbrev Inv-loop : tie.InvT-loop
 Inv-loop a b c rows k₀ k = (k ≤ 61) × (some (same (code a b c)) (drop k codes) ≡ isListed (code a b c))
@@ -39,9 +42,12 @@ is-code-requires c κs = search needs
 
 returns : tie.Need-returns Inv-loop μ-loop
 returns c =
-    let a = c .before .before .before .before .before .args in
-    let p = c .before .before .before .before .loop in
-    found (a .a) (a .b) (a .c) (p .k) (omega arith) (p .inv .1) (row-is (a .t1) _ (p .k) (a .a) (a .b) (a .c) (c .before .before .before .before .before .pre) (omega arith) ∙ sym (c .before .is-code .ensures) ∙ c .if1 .taken)
+    let start = c .before .before .before .before .before in
+    let a = start .args in
+    let turn = c .before .before .before .before .loop in
+    let look = c .before .is-code in
+    let row = row-is (a .t1) _ (turn .k) (a .a) (a .b) (a .c) _ _ (start .pre) (omega arith) (look .ensures) (c .if1 .taken) in
+    found (a .a) (a .b) (a .c) (turn .k) (omega arith) (turn .inv .1) row
 
 add-k : tie.Need-add-k Inv-loop μ-loop
 add-k c = search needs
@@ -51,11 +57,12 @@ loop-less c = search needs
 
 loop-again : tie.Need-loop-again Inv-loop μ-loop
 loop-again c =
-    let a = c .before .before .before .before .before .args in
-    let p = c .before .before .before .before .loop in (
-      omega arith,
-      passed (a .a) (a .b) (a .c) (p .k) (omega arith) (p .inv .1) (row-is (a .t1) _ (p .k) (a .a) (a .b) (a .c) (c .before .before .before .before .before .pre) (omega arith) ∙ sym (c .before .is-code .ensures) ∙ c .if1 .left),
-    )
+    let start = c .before .before .before .before .before in
+    let a = start .args in
+    let turn = c .before .before .before .before .loop in
+    let look = c .before .is-code in
+    let row = row-is (a .t1) _ (turn .k) (a .a) (a .b) (a .c) _ _ (start .pre) (omega arith) (look .ensures) (c .if1 .left) in
+    (omega arith, passed (a .a) (a .b) (a .c) (turn .k) (omega arith) (turn .inv .1) row)
 
 returns-2 : tie.Need-returns-2 Inv-loop μ-loop
 returns-2 c =

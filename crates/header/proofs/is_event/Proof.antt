@@ -1,10 +1,10 @@
--- `header::is_event` meets its contract: the test of the bytes that are left says what the test of all says. Assumes nothing.
+-- The test of the letters that are left says what the test of all says.
 use mathlib.Core.Path.{sym, _∙_}
 use Prim.Native.Nat.{_-_}
 use native.Mathlib.Omega.{arith}
 use borrow.Author.Tests.{not-true, not-false}
 use lib.ListN.{length}
-use Rattle.laws.proofs.Every.{Left, begun, passed, failed, ended}
+use Rattle.laws.proofs.Every.{Left, every-fails, begun, passed, ended}
 use Rattle.laws.specs.Numbers.{within}
 use borrow.Author.Needs.{needs}
 use Rattle.header.proofs.is_event.Statement.{statement}
@@ -26,7 +26,11 @@ between-requires : tie.Need-between-requires Inv-loop μ-loop
 between-requires c κs = search needs
 
 returns : tie.Need-returns Inv-loop μ-loop
-returns c = record { says = sym (failed (within 65 90) _ _ (c .before .before .before .loop-test .taken) (sym (c .before .between .ensures .says) ∙ not-true (c .before .between .result) (c .if1 .taken)) (c .before .before .before .before .loop .inv)) }
+returns c =
+    let b = c .before .before .before .before .before .before .args .b .now in
+    let asked = c .before .between in
+    let fails = sym (asked .ensures .says) ∙ not-true (asked .result) (c .if1 .taken) in
+    record { says = sym (every-fails (within 65 90) b _ fails (omega arith)) }
 
 add-k : tie.Need-add-k Inv-loop μ-loop
 add-k c = omega arith
@@ -35,7 +39,10 @@ loop-less : tie.Need-loop-less Inv-loop μ-loop
 loop-less c = omega arith
 
 loop-again : tie.Need-loop-again Inv-loop μ-loop
-loop-again c = passed (within 65 90) _ _ (c .before .before .before .loop-test .taken) (sym (c .before .between .ensures .says) ∙ not-false (c .before .between .result) (c .if1 .left)) (c .before .before .before .before .loop .inv)
+loop-again c =
+    let asked = c .before .between in
+    passed (within 65 90) _ _ (c .before .before .before .loop-test .taken) (sym (asked .ensures .says) ∙ not-false (asked .result) (c .if1 .left))
+    (c .before .before .before .before .loop .inv)
 
 returns-2 : tie.Need-returns-2 Inv-loop μ-loop
 returns-2 c = record { says = sym (ended (within 65 90) _ _ (c .loop-test .left) (c .before .loop .inv)) }

@@ -1,4 +1,4 @@
--- `header::is_origin` meets its contract. Assumes nothing.
+-- Each origin that was not found falls out of the definition; the comparison with the fourth is the answer.
 use mathlib.Core.Path.{sym, _∙_}
 use mathlib.Core.Bool.{or-false}
 use borrow.Author.Needs.{needs}
@@ -21,7 +21,9 @@ same-requires-2 : tie.Need-same-requires-2
 same-requires-2 c κs = search needs
 
 returns-2 : tie.Need-returns-2
-returns-2 c = record { says = simp (sym (c .before .before .before .before .same .ensures .says) ∙ c .before .before .before .if1 .left, sym (c .before .same2 .ensures .says) ∙ c .if2 .taken) }
+returns-2 c =
+    let first = c .before .before .before in
+    record { says = simp (sym (first .before .same .ensures .says) ∙ first .if1 .left, sym (c .before .same2 .ensures .says) ∙ c .if2 .taken) }
 
 slice-aggregate-same-3 : tie.Need-slice-aggregate-same-3
 slice-aggregate-same-3 c = search needs
@@ -30,7 +32,12 @@ same-requires-3 : tie.Need-same-requires-3
 same-requires-3 c κs = search needs
 
 returns-3 : tie.Need-returns-3
-returns-3 c = record { says = simp (sym (c .before .before .before .before .before .before .before .same .ensures .says) ∙ c .before .before .before .before .before .before .if1 .left, sym (c .before .before .before .before .same2 .ensures .says) ∙ c .before .before .before .if2 .left, sym (c .before .same3 .ensures .says) ∙ c .if3 .taken) }
+returns-3 c =
+    let second = c .before .before .before in
+    let first = second .before .before .before in
+    let eas = sym (first .before .same .ensures .says) ∙ first .if1 .left in
+    let civ = sym (second .before .same2 .ensures .says) ∙ second .if2 .left in
+    record { says = simp (eas, civ, sym (c .before .same3 .ensures .says) ∙ c .if3 .taken) }
 
 slice-aggregate-same-4 : tie.Need-slice-aggregate-same-4
 slice-aggregate-same-4 c = search needs
@@ -39,7 +46,14 @@ same-requires-4 : tie.Need-same-requires-4
 same-requires-4 c κs = search needs
 
 returns-4 : tie.Need-returns-4
-returns-4 c = record { says = simp (sym (c .before .before .before .before .before .before .before .before .before .same .ensures .says) ∙ c .before .before .before .before .before .before .before .before .if1 .left, sym (c .before .before .before .before .before .before .same2 .ensures .says) ∙ c .before .before .before .before .before .if2 .left, sym (c .before .before .before .same3 .ensures .says) ∙ c .before .before .if3 .left, or-false) (c .same4 .ensures .says) }
+returns-4 c =
+    let third = c .before .before in
+    let second = third .before .before .before in
+    let first = second .before .before .before in
+    let eas = sym (first .before .same .ensures .says) ∙ first .if1 .left in
+    let civ = sym (second .before .same2 .ensures .says) ∙ second .if2 .left in
+    let wxr = sym (third .before .same3 .ensures .says) ∙ third .if3 .left in
+    record { says = simp (eas, civ, wxr, or-false) (c .same4 .ensures .says) }
 
 pub is-origin-spec : {M : Type 1} → statement M
 is-origin-spec =

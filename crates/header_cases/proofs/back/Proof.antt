@@ -1,4 +1,4 @@
--- `header_cases::back` is safe and ends. Assumes nothing.
+-- The part compared is as long as the length that was asked for.
 use mathlib.Core.Path.{sym}
 use native.Mathlib.Omega.{arith}
 use lib.Seq.{length-take-le}

@@ -1,4 +1,4 @@
--- `header_cases::line_end` meets its contract. Assumes nothing.
+-- The index never passes the end of the text.
 use Prim.Native.Nat.{_≤_, _-_}
 use borrow.Author.Needs.{needs}
 use lib.ListN.{length}

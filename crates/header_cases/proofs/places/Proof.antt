@@ -1,4 +1,4 @@
--- `header_cases::places` is safe and ends. Assumes nothing.
+-- k is at most 31, so each look is within the codes.
 use Prim.Native.Nat.{_≤_, _-_}
 use borrow.Author.Needs.{needs}
 use Rattle.header_cases.proofs.places.Statement.{statement}

@@ -1,4 +1,4 @@
--- `header_cases::texts` is safe and ends. Assumes nothing.
+-- A line ends at or behind its start, and the next starts behind that end.
 use Prim.Native.Nat.{_≤_, _+_, _-_}
 use borrow.Author.Needs.{needs}
 use lib.ListN.{length}

@@ -1,4 +1,4 @@
--- `fields::minutes_at` meets its contract. Assumes nothing.
+-- Each test that fails is a reason why the field is not allowed; where all hold, hours and minutes are the value.
 use mathlib.Core.Path.{_≡_, sym, _∙_}
 use Prim.Native.Nat.{ℕ, _+_, _≤_, _<_}
 use mathlib.Core.List.{List}
@@ -6,7 +6,7 @@ use mathlib.Core.Bool.{true}
 use native.Mathlib.Omega.{arith}
 use borrow.Author.Tests.{not-true, not-false}
 use Rattle.codec.proofs.Numbers.{number-none}
-use Rattle.header.specs.Header.{duration, isWritten}
+use Rattle.header.specs.Header.{duration, isDurationOf}
 use Rattle.header.proofs.Round.{hours, minutes}
 use Rattle.header_fields.proofs.Marks.{too-short, too-late, no-room, not-allowed, not-marked, stands}
 use Rattle.header_fields.proofs.Numbers.{no-hours, no-minutes, Duration, a-duration}
@@ -14,22 +14,43 @@ use borrow.Author.Needs.{needs}
 use Rattle.header_fields.proofs.minutes_at.Statement.{statement}
 use Rattle.header_fields.proofs.minutes_at.Tie as tie
 
-text : tie.After-is-written → List ℕ
-text d = d .before .before .before .before .before .before .before .before .before .before .before .before .args .text .now
+-- ---- the places behind the numbers, and where the function begins
 
-at : tie.After-is-written → ℕ
-at d = d .before .before .before .before .before .before .before .before .before .before .before .before .args .at
+abbrev m-read : tie.After-is-duration-of → tie.After-m
+m-read d = d .before .before
+
+abbrev h-read : tie.After-is-duration-of → tie.After-h
+h-read d = m-read d .before .before .before .before
+
+abbrev begun : tie.After-is-duration-of → tie.Start
+begun d = h-read d .before .before .before .before .before .before
+
+abbrev text : tie.After-is-duration-of → List ℕ
+text d = begun d .args .text .now
+
+abbrev at : tie.After-is-duration-of → ℕ
+at d = begun d .args .at
+
+abbrev hour : tie.After-is-duration-of → ℕ
+hour d = h-read d .h .given .0 .0
+
+abbrev minute : tie.After-is-duration-of → ℕ
+minute d = m-read d .m .given .0 .0
 
 -- both numbers are read
-both : (d : tie.After-is-written) → Duration (text d) (at d) (d .before .before .before .before .before .before .h .given .0 .0) (d .before .before .m .given .0 .0)
-unfolding text at
-both d = a-duration _ _ _ _ (sym (d .before .before .before .before .before .before .before .before .digits-at .ensures .says) ∙ d .before .before .before .before .before .before .h .given .1) (sym (d .before .before .before .before .digits-at2 .ensures .says) ∙ d .before .before .m .given .1)
+both : (d : tie.After-is-duration-of) → Duration (text d) (at d) (hour d) (minute d)
+both d =
+    let h = h-read d in
+    let m = m-read d in
+    a-duration _ _ _ _
+    (sym (h .before .before .digits-at .ensures .says) ∙ h .h .given .1)
+    (sym (m .before .before .digits-at2 .ensures .says) ∙ m .m .given .1)
 
-yes : (c : tie.Else3) → isWritten (c .before .before .before .before .before .before .before .h .given .0 .0, c .before .before .before .m .given .0 .0) ≡ true
-yes c = sym (c .before .is-written .ensures .says) ∙ not-false (c .before .is-written .result) (c .if3 .left)
+yes : (c : tie.Else3) → isDurationOf (hour (c .before), minute (c .before)) ≡ true
+yes c = sym (c .before .is-duration-of .ensures .says) ∙ not-false (c .before .is-duration-of .result) (c .if3 .left)
 
-small : (c : tie.Else3) → (c .before .before .before .before .before .before .before .h .given .0 .0 ≤ 99) × (c .before .before .before .m .given .0 .0 < 60)
-small c = (hours (c .before .before .before .before .before .before .before .h .given .0 .0) (c .before .before .before .m .given .0 .0) (yes c), minutes (c .before .before .before .before .before .before .before .h .given .0 .0) (c .before .before .before .m .given .0 .0) (yes c))
+small : (c : tie.Else3) → (hour (c .before) ≤ 99) × (minute (c .before) < 60)
+small c = (hours (hour (c .before)) (minute (c .before)) (yes c), minutes (hour (c .before)) (minute (c .before)) (yes c))
 
 returns : tie.Need-returns
 returns c =
@@ -57,7 +78,8 @@ returns-3 : tie.Need-returns-3
 returns-3 c =
     let u = c .before .before in
     let a = u .before .before .before .before .args in
-    record { says = not-allowed duration (a .text .now) (a .at) 9 (no-hours (a .text .now) (a .at) (number-none (a .text .now) (a .at) 2 (omega arith) (omega arith) (sym (u .digits-at .ensures .says) ∙ c .enum-told .given .1))) }
+    let none = number-none (a .text .now) (a .at) 2 (omega arith) (omega arith) (sym (u .digits-at .ensures .says) ∙ c .enum-told .given .1) in
+    record { says = not-allowed duration (a .text .now) (a .at) 9 (no-hours (a .text .now) (a .at) none) }
 
 add-digits-at : tie.Need-add-digits-at
 add-digits-at c = search needs
@@ -74,16 +96,19 @@ enum-told-2 c = search needs
 returns-4 : tie.Need-returns-4
 returns-4 c =
     let v = c .before .before in
-    let a = v .before .before .before .before .before .before .before .before .args in
-    record { says = not-allowed duration (a .text .now) (a .at) 9 (no-minutes (a .text .now) (a .at) (number-none (a .text .now) (a .at + 2) 2 (omega arith) (omega arith) (sym (v .digits-at2 .ensures .says) ∙ c .enum-told2 .given .1))) }
+    let h = v .before .before in
+    let a = h .before .before .before .before .before .before .args in
+    let none = number-none (a .text .now) (a .at + 2) 2 (omega arith) (omega arith) (sym (v .digits-at2 .ensures .says) ∙ c .enum-told2 .given .1) in
+    record { says = not-allowed duration (a .text .now) (a .at) 9 (no-minutes (a .text .now) (a .at) none) }
 
-is-written-requires : tie.Need-is-written-requires
-is-written-requires c κs = search needs
+is-duration-of-requires : tie.Need-is-duration-of-requires
+is-duration-of-requires c κs = search needs
 
 returns-5 : tie.Need-returns-5
-unfolding text at
 returns-5 c =
-    record { says = not-allowed duration (text (c .before)) (at (c .before)) 9 (both (c .before) .test ∙ sym (c .before .is-written .ensures .says) ∙ not-true (c .before .is-written .result) (c .if3 .taken)) }
+    let d = c .before in
+    let none = sym (d .is-duration-of .ensures .says) ∙ not-true (d .is-duration-of .result) (c .if3 .taken) in
+    record { says = not-allowed duration (text d) (at d) 9 (both d .test ∙ none) }
 
 add-if4 : tie.Need-add-if4
 add-if4 c = search needs
@@ -92,7 +117,6 @@ shared-slice-read-if4 : tie.Need-shared-slice-read-if4
 shared-slice-read-if4 c = search needs
 
 returns-6 : tie.Need-returns-6
-unfolding text at
 returns-6 c =
     let d = c .before .before .before in
     record { says = not-marked duration (text d) (at d) 9 (c .if4 .taken) }
@@ -104,11 +128,11 @@ add-t14 : tie.Need-add-t14
 add-t14 c = omega (arith, small (c .before .before))
 
 returns-7 : tie.Need-returns-7
-unfolding text at
 returns-7 c =
     let y = c .before .before in
     let d = y .before in
-    record { says = stands duration (text d) (at d) 9 _ (d .before .before .before .before .before .before .before .before .before .if2 .left) (both d .test ∙ yes y) (c .if4 .left) (both d .mean) }
+    let room = h-read d .before .before .before .if2 .left in
+    record { says = stands duration (text d) (at d) 9 _ room (both d .test ∙ yes y) (c .if4 .left) (both d .mean) }
 
 pub minutes-at-spec : {M : Type 1} → statement M
 minutes-at-spec =
@@ -126,7 +150,7 @@ minutes-at-spec =
     enum-known-m
     enum-told-2
     returns-4
-    is-written-requires
+    is-duration-of-requires
     returns-5
     add-if4
     shared-slice-read-if4

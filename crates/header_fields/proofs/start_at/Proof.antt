@@ -1,4 +1,4 @@
--- `fields::start_at` meets its contract. Assumes nothing.
+-- Room, the bytes and the mark are tested in this order, and each test that fails says that the field does not stand there.
 use mathlib.Core.Path.{_≡_, sym, _∙_}
 use Prim.Native.Nat.{ℕ, _+_, _-_}
 use native.Mathlib.Omega.{arith}
@@ -66,7 +66,8 @@ returns-4 : tie.Need-returns-4
 returns-4 c =
     let u = c .before .before in
     let a = u .before .before .before .before .before .before .args in
-    record { says = by-dash start (a .text .now) (a .at) (u .same .result) (u .same .ensures .says ∙ sym (allowed (a .text .now) (a .at))) (u .before .before .before .if2 .left) (c .before .if3 .left) }
+    let said = u .same .ensures .says ∙ sym (allowed (a .text .now) (a .at)) in
+    record { says = by-dash start (a .text .now) (a .at) (u .same .result) said (u .before .before .before .if2 .left) (c .before .if3 .left) }
 
 pub start-at-spec : {M : Type 1} → statement M
 start-at-spec =

@@ -1,4 +1,4 @@
--- `reading::eight` meets its contract: the bytes of the part, one by one. Assumes nothing.
+-- The bytes of the part, one by one.
 use mathlib.Core.Path.{sym}
 use native.Mathlib.Omega.{arith}
 use Rattle.laws.proofs.Parts.{spelled}
@@ -53,7 +53,8 @@ shared-slice-read-t25 c = search needs
 
 returns : tie.Need-returns
 returns c =
-    let a = c .before .before .before .before .before .before .before .before .args in
+    let fourth = c .before .before .before .before in
+    let a = fourth .before .before .before .before .args in
     sym (spelled (a .text .now) (a .at) 7 (omega arith))
 
 pub eight-spec : {M : Type 1} → statement M

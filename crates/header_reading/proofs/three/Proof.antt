@@ -1,4 +1,4 @@
--- `reading::three` meets its contract: the bytes of the part, one by one. Assumes nothing.
+-- The bytes of the part, one by one.
 use mathlib.Core.Path.{sym}
 use native.Mathlib.Omega.{arith}
 use Rattle.laws.proofs.Parts.{spelled}

@@ -1,6 +1,7 @@
--- `writing::codes_ok` meets its contract. Assumes nothing.
+-- The codes before k are fine, so those from k on decide.
 use mathlib.Core.Path.{_≡_, sym, ap, _∙_}
-use Prim.Native.Nat.{_-_}
+use Prim.Native.Nat.{ℕ, _-_, _≤_, _<_}
+use mathlib.Core.List.{List}
 use native.Mathlib.Omega.{arith}
 use lib.ListN.{length, getD, take}
 use lib.Seq.{length-take-le, getD-take}
@@ -32,13 +33,24 @@ mul-if3 c = omega arith
 shared-slice-read-if3 : tie.Need-shared-slice-read-if3 Inv-loop μ-loop
 shared-slice-read-if3 c = omega arith
 
+-- the code at k, and how many there are
+module _ (codes : List ℕ) (count : ℕ) (h : count ≤ length codes) where
+  counted : length (take count codes) ≡ count
+  counted = length-take-le count codes h
+
+  same-test : (k : ℕ) → k < count → place .ok (getD (take count codes) k 0) ≡ place .ok (getD codes k 0)
+  same-test k l = ap (place .ok) (getD-take count codes k 0 l)
+
 returns-3 : tie.Need-returns-3 Inv-loop μ-loop
 returns-3 c =
     let l = c .before .before .before in
-    let a = l .before .before .before .args in
-    let n : length (take (a .count) (a .codes .now)) ≡ a .count = length-take-le (a .count) (a .codes .now) (omega arith) in
-    let g : getD (take (a .count) (a .codes .now)) (l .loop .k) 0 ≡ getD (a .codes .now) (l .loop .k) 0 = getD-take (a .count) (a .codes .now) (l .loop .k) 0 (c .before .before .loop-test .taken) in
-    sym (codes-some (a .codes .now) (a .count) (l .before .before .if1 .left) (l .before .if2 .left) (l .before .before .before .pre) ∙ failed (place .ok) (take (a .count) (a .codes .now)) (l .loop .k) (omega arith) (ap (place .ok) g ∙ le-ltb _ _ (c .if3 .taken)) (l .loop .inv))
+    let start = l .before .before .before in
+    let a = start .args in
+    let codes = a .codes .now in
+    let few : a .count ≤ length codes = omega (arith, start .pre) in
+    let bad = same-test codes (a .count) few (l .loop .k) (c .before .before .loop-test .taken) ∙ le-ltb _ _ (c .if3 .taken) in
+    sym (codes-some codes (a .count) (l .before .before .if1 .left) (l .before .if2 .left) (start .pre)
+    ∙ failed (place .ok) (take (a .count) codes) (l .loop .k) (omega (arith, counted codes (a .count) few)) bad (l .loop .inv))
 
 add-k : tie.Need-add-k Inv-loop μ-loop
 add-k c = omega arith
@@ -49,17 +61,23 @@ loop-less c = omega arith
 loop-again : tie.Need-loop-again Inv-loop μ-loop
 loop-again c =
     let l = c .before .before .before in
-    let a = l .before .before .before .args in
-    let n : length (take (a .count) (a .codes .now)) ≡ a .count = length-take-le (a .count) (a .codes .now) (omega arith) in
-    let g : getD (take (a .count) (a .codes .now)) (l .loop .k) 0 ≡ getD (a .codes .now) (l .loop .k) 0 = getD-take (a .count) (a .codes .now) (l .loop .k) 0 (c .before .before .loop-test .taken) in
-    passed (place .ok) (take (a .count) (a .codes .now)) (l .loop .k) (omega arith) (ap (place .ok) g ∙ lt-ltb (getD (a .codes .now) (l .loop .k) 0) 1000000 (omega arith)) (l .loop .inv)
+    let start = l .before .before .before in
+    let a = start .args in
+    let codes = a .codes .now in
+    let few : a .count ≤ length codes = omega (arith, start .pre) in
+    let fine = lt-ltb (getD codes (l .loop .k) 0) 1000000 (omega arith) in
+    let good = same-test codes (a .count) few (l .loop .k) (c .before .before .loop-test .taken) ∙ fine in
+    passed (place .ok) (take (a .count) codes) (l .loop .k) (omega (arith, counted codes (a .count) few)) good (l .loop .inv)
 
 returns-4 : tie.Need-returns-4 Inv-loop μ-loop
 returns-4 c =
     let l = c .before in
-    let a = l .before .before .before .args in
-    let n : length (take (a .count) (a .codes .now)) ≡ a .count = length-take-le (a .count) (a .codes .now) (omega arith) in
-    sym (codes-some (a .codes .now) (a .count) (l .before .before .if1 .left) (l .before .if2 .left) (l .before .before .before .pre) ∙ ended (place .ok) (take (a .count) (a .codes .now)) (l .loop .k) (omega arith) (l .loop .inv))
+    let start = l .before .before .before in
+    let a = start .args in
+    let codes = a .codes .now in
+    let few : a .count ≤ length codes = omega (arith, start .pre) in
+    sym (codes-some codes (a .count) (l .before .before .if1 .left) (l .before .if2 .left) (start .pre)
+    ∙ ended (place .ok) (take (a .count) codes) (l .loop .k) (omega (arith, counted codes (a .count) few)) (l .loop .inv))
 
 pub codes-ok-spec : {M : Type 1} → statement M
 codes-ok-spec =

@@ -1,10 +1,11 @@
--- `writing::put_all` meets its contract. Assumes nothing.
-use mathlib.Core.Path.{_≡_, ap, _∙_}
+-- What is left to write, pasted at its index, gives the whole: start, origin and event; the places; the rest.
+use mathlib.Core.Path.{_≡_, refl, ap, _∙_}
 use Prim.Native.Nat.{ℕ, _+_, _*_, _≤_}
 use mathlib.Core.List.{List, _++_}
 use native.Mathlib.Omega.{arith}
 use lib.ListN.{length, take, length-append}
-use Rattle.codec.proofs.Puts.{puts-two, puts-as}
+use Rattle.laws.specs.Space.{pasted}
+use Rattle.laws.proofs.Pasted.{todo, step}
 use Rattle.header_writing.specs.Steps.{allText, openingText, placesText, closingText}
 use Rattle.header_writing.proofs.Marked.{places-length}
 use borrow.Author.Needs.{needs}
@@ -17,12 +18,14 @@ put-opening-requires c κs = search needs
 put-places-requires : tie.Need-put-places-requires
 put-places-requires c κs = search needs
 
+mul-put-closing : tie.Need-mul-put-closing
+mul-put-closing c = search needs
+
+add-put-closing : tie.Need-add-put-closing
+add-put-closing c = search needs
+
 put-closing-requires : tie.Need-put-closing-requires
-put-closing-requires c κs =
-    let z = c .before .before .before .before .before .before .before .before .before .before .before in
-    let o = c .before .before .before .before .before .before .before .put-opening in
-    let p = c .before .before .before .put-places in
-    omega (arith, p .ensures .next, places-length (z .args .codes .now) (z .args .f .count) (z .pre .1 .0) (omega (arith, z .pre .1 .1 .0, z .pre .0 .1)), o .ensures .0 .next, o .ensures .1, o .kept, p .kept, z .pre .1 .1 .1)
+put-closing-requires c κs = search needs
 
 same-length : tie.Need-same-length
 same-length c = search needs
@@ -30,19 +33,33 @@ same-length c = search needs
 returns : tie.Need-returns
 unfolding allText
 returns c =
-    let z = c .before .before .before .before .before .before .before .before .before .before .before .before .before .before in
-    let a = z .args in
-    let o = c .before .before .before .before .before .before .before .before .before .before .put-opening in
-    let p = c .before .before .before .before .before .before .put-places in
-    let q = c .before .before .put-closing in
-    let r : 35 + 7 * a .f .count ≤ length (a .out .now) = z .pre .1 .1 .1 in
-    let lx : length (openingText (a .f)) ≡ 13 = o .ensures .1 in
-    let ly : length (placesText (take (a .f .count) (a .codes .now))) ≡ 7 * a .f .count = places-length (a .codes .now) (a .f .count) (z .pre .1 .0) (omega (arith, z .pre .1 .1 .0, z .pre .0 .1)) in
-    let lxy : length (openingText (a .f) ++ placesText (take (a .f .count) (a .codes .now))) ≡ 13 + 7 * a .f .count = length-append (openingText (a .f)) (placesText (take (a .f .count) (a .codes .now))) ∙ omega arith in
-    puts-as (puts-two (puts-two (o .ensures .0) (p .ensures) (omega arith)) (q .ensures .0) (omega (arith, q .ensures .1)))
-    (ap (λ (l : List ℕ). (openingText (a .f) ++ placesText (take (a .f .count) l)) ++ closingText (a .f)) (z .pre .0 .0))
+    let third = c .before .before in
+    let second = third .before .before .before .before in
+    let first = second .before .before .before .before in
+    let start = first .before .before .before .before in
+    let a = start .args in
+    let x : List ℕ = openingText (a .f) in
+    let y : List ℕ = placesText (take (a .f .count) (a .codes .now)) in
+    let z : List ℕ = closingText (a .f) in
+    let lx : length x ≡ 13 = first .put-opening .ensures .1 in
+    let ly : length y ≡ 7 * a .f .count = places-length (a .codes .now) (a .f .count) (omega (arith, start .pre .0 .1, start .pre .1 .1 .0)) in
+    let lz : length z ≡ 22 = third .put-closing .ensures .1 in
+    let l : length (x ++ (y ++ z)) ≡ 35 + 7 * a .f .count = length-append x (y ++ z) ∙ omega (arith, length-append y z) in
+    let all = todo (a .out .now) 0 (x ++ (y ++ z)) (omega (arith, start .pre .1 .1 .1)) in
+    let rest = step _ _ _ _ _ all x (y ++ z) _ 13 refl (first .put-opening .ensures .0) (omega arith) in
+    let last = step _ _ _ _ _ rest y z _ (13 + 7 * a .f .count) refl (second .put-places .ensures) (omega arith) in
+    third .put-closing .ensures .0
+    ∙ last .same
+    ∙ ap (λ (l : List ℕ). pasted (a .out .now) 0 (x ++ (placesText (take (a .f .count) l) ++ z))) (start .pre .0 .0)
 
 pub put-all-spec : {M : Type 1} → statement M
 put-all-spec =
     tie.close
-    (tie.spec put-opening-requires put-places-requires put-closing-requires same-length returns)
+    (tie.spec
+    put-opening-requires
+    put-places-requires
+    mul-put-closing
+    add-put-closing
+    put-closing-requires
+    same-length
+    returns)

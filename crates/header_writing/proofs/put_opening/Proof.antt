@@ -1,19 +1,16 @@
--- `writing::put_opening` meets its contract. Assumes nothing.
-use mathlib.Core.Path.{_≡_, _∙_}
-use Prim.Native.Nat.{ℕ, _≤_}
-use mathlib.Core.List.{List, [], _∷_, _++_, append-assoc}
+-- What is left to write, pasted at its index, gives the whole: the start, then origin and event, each with its mark.
+use mathlib.Core.Path.{_≡_, refl, _∙_}
+use Prim.Native.Nat.{ℕ, _+_}
+use mathlib.Core.List.{List, [], _∷_, _++_}
 use native.Mathlib.Omega.{arith}
 use lib.ListN.{length, length-append}
-use Rattle.codec.specs.Promise.{Puts}
-use Rattle.codec.proofs.Puts.{put-fits, puts-two, puts-as}
+use Rattle.laws.proofs.Pasted.{todo, step}
+use Rattle.codec.proofs.Puts.{put-next}
 use Rattle.header_writing.specs.Steps.{openingText}
 use Rattle.header_writing.proofs.Judged.{opening-length}
 use borrow.Author.Needs.{needs}
 use Rattle.header_writing.proofs.put_opening.Statement.{statement}
 use Rattle.header_writing.proofs.put_opening.Tie as tie
-
-first : (c : tie.After-put-bytes) → Puts (c .before .before .before .before .before .before .args .out .now) 0 (90 ∷ 67 ∷ 90 ∷ 67 ∷ 45 ∷ []) (c .put-bytes .last .0) (c .put-bytes .result)
-first c = put-fits (c .put-bytes .ensures) (omega (arith, c .before .before .before .before .before .before .pre))
 
 slice-aggregate-put-bytes : tie.Need-slice-aggregate-put-bytes
 slice-aggregate-put-bytes c = search needs
@@ -25,16 +22,13 @@ slice-aggregate-put-marked : tie.Need-slice-aggregate-put-marked
 slice-aggregate-put-marked c = search needs
 
 put-marked-requires : tie.Need-put-marked-requires
-put-marked-requires c κs = omega (arith, first (c .before .before .before .before) .next, slice-aggregate-put-marked c, c .before .before .before .before .put-bytes .kept, c .before .before .before .before .before .before .before .before .before .before .pre)
+put-marked-requires c κs = omega (arith, slice-aggregate-put-marked c)
 
 slice-aggregate-put-marked-2 : tie.Need-slice-aggregate-put-marked-2
 slice-aggregate-put-marked-2 c = search needs
 
 put-marked-requires-2 : tie.Need-put-marked-requires-2
-put-marked-requires-2 c κs =
-    let p = c .before .before .before .before in
-    let a = c .before .before .before .before .before .before .before .before .before .before .before .before .before .before .before .args in
-    omega (arith, first (p .before .before .before .before .before) .next, p .put-marked .ensures .next, length-append (a .f .origin) (45 ∷ []), slice-aggregate-put-marked (p .before), slice-aggregate-put-marked-2 c, p .put-marked .kept, c .before .before .before .before .before .before .before .before .before .put-bytes .kept, c .before .before .before .before .before .before .before .before .before .before .before .before .before .before .before .pre)
+put-marked-requires-2 c κs = omega (arith, slice-aggregate-put-marked-2 c)
 
 same-length : tie.Need-same-length
 same-length c = search needs
@@ -42,19 +36,20 @@ same-length c = search needs
 returns : tie.Need-returns
 unfolding openingText
 returns c =
-    let a = c .before .before .before .before .before .before .before .before .before .before .before .before .before .before .before .before .before .before .args in
-    let lo : 3 ≡ length (a .f .origin) = slice-aggregate-put-marked (c .before .before .before .before .before .before .before .before) in
-    let le : 3 ≡ length (a .f .event) = slice-aggregate-put-marked-2 (c .before .before .before) in
-    let r : 13 ≤ length (a .out .now) = c .before .before .before .before .before .before .before .before .before .before .before .before .before .before .before .before .before .before .pre in
-    let x : List ℕ = 90 ∷ 67 ∷ 90 ∷ 67 ∷ 45 ∷ [] in
-    let y : List ℕ = a .f .origin ++ (45 ∷ []) in
-    let z : List ℕ = a .f .event ++ (45 ∷ []) in
-    let ly : length y ≡ 4 = length-append (a .f .origin) (45 ∷ []) ∙ omega arith in
-    let lz : length z ≡ 4 = length-append (a .f .event) (45 ∷ []) ∙ omega arith in
-    let lxy : length (x ++ y) ≡ 9 = length-append x y ∙ omega arith in (
-      puts-as (puts-two (puts-two (first (c .before .before .before .before .before .before .before .before .before .before .before .before)) (c .before .before .before .before .before .before .before .put-marked .ensures) (omega arith)) (c .before .before .put-marked2 .ensures) (omega arith)) (append-assoc x y z),
-      opening-length (a .f) lo le,
-    )
+    let third = c .before .before in
+    let second = third .before .before .before .before .before in
+    let first = second .before .before .before .before .before in
+    let a = first .before .before .before .before .before .before .args in
+    let lo : 3 ≡ length (a .f .origin) = slice-aggregate-put-marked (second .before) in
+    let le : 3 ≡ length (a .f .event) = slice-aggregate-put-marked-2 (third .before) in
+    let origin : List ℕ = a .f .origin ++ (45 ∷ []) in
+    let event : List ℕ = a .f .event ++ (45 ∷ []) in
+    let l : length (openingText (a .f)) ≡ 13 = opening-length (a .f) lo le in
+    let all = todo (a .out .now) 0 (openingText (a .f)) (omega arith) in
+    let fields = put-next (90 ∷ 67 ∷ 90 ∷ 67 ∷ 45 ∷ []) (origin ++ event) all (first .put-bytes .ensures) 5 refl in
+    let n : 9 ≡ 5 + length origin = omega (arith, length-append (a .f .origin) (45 ∷ [])) in
+    let last = step _ _ _ _ _ fields origin event _ 9 refl (second .put-marked .ensures) n in
+    (third .put-marked2 .ensures ∙ last .same, l)
 
 pub put-opening-spec : {M : Type 1} → statement M
 put-opening-spec =

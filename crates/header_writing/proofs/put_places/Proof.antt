@@ -1,39 +1,49 @@
--- `writing::put_places` meets its contract: what is written so far, each place with its mark. Assumes nothing.
-use mathlib.Core.Path.{_≡_, sym}
-use Prim.Native.Nat.{_+_, _-_, _<_}
+-- The places from k on are left to write: their text, pasted at index at + 7 k, gives the whole.
+use mathlib.Core.Path.{_≡_, sym, ap, _∙_}
+use Prim.Native.Nat.{_+_, _-_, _*_, _<_}
+use mathlib.Core.List.{[], _∷_, _++_}
+use native.Mathlib.Nat.{add-zero}
 use native.Mathlib.Omega.{arith}
-use lib.ListN.{length, take}
-use Rattle.codec.specs.Promise.{Puts}
-use Rattle.codec.proofs.Puts.{puts-nil, puts-as, puts-length}
-use lib.Seq.{length-take-le}
-use Rattle.header_writing.proofs.Marked.{dashed, dashed-none, dashed-length, dashed-more, text-last, place-more}
-use borrow.Author.Needs.{needs}
+use lib.ListN.{length, getD, take, drop}
+use Rattle.laws.specs.Numbers.{dig}
+use Rattle.laws.specs.Space.{pasted}
+use Rattle.laws.proofs.Pasted.{Todo, todo, step}
+use Rattle.header_writing.specs.Steps.{placesText}
+use Rattle.header_writing.proofs.Marked.{places-length, places-more, places-last}
 use Rattle.header_writing.proofs.put_places.Statement.{statement}
 use Rattle.header_writing.proofs.put_places.Tie as tie
 
 abbrev Inv-loop : tie.InvT-loop
-Inv-loop out₀ at codes count k₀ i₀ out k i = (k < count) × Puts out₀ at (dashed (take k codes)) out i
+Inv-loop out₀ at codes count k₀ out k =
+    (k < count) × Todo out₀ (pasted out₀ at (placesText (take count codes))) out (at + 7 * k) (placesText (drop k (take count codes)))
 
 abbrev μ-loop : tie.MeasureT-loop
-μ-loop out₀ at codes count k₀ i₀ out k i = count - k
+μ-loop out₀ at codes count k₀ out k = count - k
 
 loop-holds : tie.Need-loop-holds Inv-loop μ-loop
-loop-holds c = (omega arith, puts-as (puts-nil (c .before .before .args .out .now) (c .before .before .args .at)) (sym (dashed-none (c .before .before .args .codes .now))))
+loop-holds c =
+    let a = c .before .before .args in
+    let pre = c .before .before .pre in
+    let l = places-length (a .codes .now) (a .count) (pre .1 .0) in
+    (omega arith, rw add-zero (todo (a .out .now) (a .at) (placesText (take (a .count) (a .codes .now))) (omega arith)))
 
 add-loop : tie.Need-add-loop Inv-loop μ-loop
 add-loop c = omega arith
 
-mul-put-digits : tie.Need-mul-put-digits Inv-loop μ-loop
-mul-put-digits c = omega arith
+mul-put-place : tie.Need-mul-put-place Inv-loop μ-loop
+mul-put-place c = omega arith
 
-shared-slice-read-put-digits : tie.Need-shared-slice-read-put-digits Inv-loop μ-loop
-shared-slice-read-put-digits c = omega arith
+add-put-place : tie.Need-add-put-place Inv-loop μ-loop
+add-put-place c = omega arith
 
-put-digits-requires : tie.Need-put-digits-requires Inv-loop μ-loop
-put-digits-requires c κs = search needs
+mul-put-place-2 : tie.Need-mul-put-place-2 Inv-loop μ-loop
+mul-put-place-2 c = omega arith
 
-put-byte-requires : tie.Need-put-byte-requires Inv-loop μ-loop
-put-byte-requires c κs = search needs
+shared-slice-read-put-place : tie.Need-shared-slice-read-put-place Inv-loop μ-loop
+shared-slice-read-put-place c = omega arith
+
+put-place-requires : tie.Need-put-place-requires Inv-loop μ-loop
+put-place-requires c κs = omega (arith, c .before .before .before .loop .inv .1 .len)
 
 add-k : tie.Need-add-k Inv-loop μ-loop
 add-k c = omega arith
@@ -43,38 +53,45 @@ loop-less c = omega arith
 
 loop-again : tie.Need-loop-again Inv-loop μ-loop
 loop-again c =
-    let l = c .before .before .before .before .before .before .before .before .before .before in
-    let a = c .before .before .before .before .before .before .before .before .before .before .before .before .before .args in
-    let h : l .loop .k < length (a .codes .now) = omega (arith, l .loop .inv .0, c .before .before .before .before .before .before .before .before .before .before .before .before .before .pre) in
-    let t : l .loop .k + 1 < a .count = c .before .before .before .before .before .before .before .before .before .loop-test .taken in
-    (t, puts-as (place-more (a .out .now) (a .at) (a .codes .now) (l .loop .k) (l .loop .out) (l .loop .i) _ _ 45 _ _ h (omega (arith, c .before .before .before .before .before .before .before .before .before .before .before .before .before .pre)) (l .loop .inv .1) (c .before .before .before .before .before .before .put-digits .ensures) (c .before .before .put-byte .ensures)) (dashed-more (a .codes .now) (l .loop .k) h))
+    let placed = c .before .before in
+    let turn = placed .before .before .before .before in
+    let k = turn .loop .k in
+    let start = turn .before .before .before in
+    let a = start .args in
+    let l = take (a .count) (a .codes .now) in
+    let more = places-more (a .codes .now) (a .count) (start .pre .1 .0) k (placed .before .before .before .loop-test .taken) in
+    let place = dig 6 (getD (a .codes .now) k 0) ++ (45 ∷ []) in (
+      placed .before .before .before .loop-test .taken,
+      step _ _ _ _ _ (turn .loop .inv .1) place (placesText (drop (k + 1) l)) _ (a .at + 7 * (k + 1)) more (placed .put-place .ensures) (omega arith),
+    )
 
-mul-put-digits-2 : tie.Need-mul-put-digits-2 Inv-loop μ-loop
-mul-put-digits-2 c = omega arith
+mul-put-place-3 : tie.Need-mul-put-place-3 Inv-loop μ-loop
+mul-put-place-3 c = omega arith
 
-shared-slice-read-put-digits-2 : tie.Need-shared-slice-read-put-digits-2 Inv-loop μ-loop
-shared-slice-read-put-digits-2 c = omega arith
+add-put-place-2 : tie.Need-add-put-place-2 Inv-loop μ-loop
+add-put-place-2 c = omega arith
 
-put-digits-requires-2 : tie.Need-put-digits-requires-2 Inv-loop μ-loop
-put-digits-requires-2 c κs = search needs
+mul-put-place-4 : tie.Need-mul-put-place-4 Inv-loop μ-loop
+mul-put-place-4 c = omega arith
 
-put-byte-requires-2 : tie.Need-put-byte-requires-2 Inv-loop μ-loop
-put-byte-requires-2 c κs = search needs
+shared-slice-read-put-place-2 : tie.Need-shared-slice-read-put-place-2 Inv-loop μ-loop
+shared-slice-read-put-place-2 c = omega arith
+
+put-place-requires-2 : tie.Need-put-place-requires-2 Inv-loop μ-loop
+put-place-requires-2 c κs = omega (arith, c .before .before .before .loop .inv .1 .len)
 
 same-length : tie.Need-same-length Inv-loop μ-loop
-same-length c =
-    let l = c .before .before .before .before .before .before .before .before .before .before in
-    let a = c .before .before .before .before .before .before .before .before .before .before .before .before .before .args in
-    let n : length (l .loop .out) ≡ length (a .out .now) = puts-length (l .loop .inv .1) (omega (arith, c .before .before .before .before .before .before .before .before .before .before .before .before .before .pre, l .loop .inv .0, dashed-length (take (l .loop .k) (a .codes .now)), length-take-le (l .loop .k) (a .codes .now) (omega (arith, l .loop .inv .0, c .before .before .before .before .before .before .before .before .before .before .before .before .before .pre)))) in
-    omega (arith, c .before .before .put-byte2 .kept, c .before .before .before .before .before .before .put-digits2 .kept)
+same-length c = c .before .before .put-place2 .kept .0 ∙ c .before .before .before .before .before .before .loop .inv .1 .len
 
 returns : tie.Need-returns Inv-loop μ-loop
 returns c =
-    let l = c .before .before .before .before .before .before .before .before .before .before in
-    let a = c .before .before .before .before .before .before .before .before .before .before .before .before .before .args in
-    let h : l .loop .k < length (a .codes .now) = omega (arith, l .loop .inv .0, c .before .before .before .before .before .before .before .before .before .before .before .before .before .pre) in
-    let t : l .loop .k + 1 ≡ a .count = omega (arith, c .before .before .before .before .before .before .before .before .before .loop-test .left, l .loop .inv .0) in
-    puts-as (place-more (a .out .now) (a .at) (a .codes .now) (l .loop .k) (l .loop .out) (l .loop .i) _ _ 43 _ _ h (omega (arith, c .before .before .before .before .before .before .before .before .before .before .before .before .before .pre)) (l .loop .inv .1) (c .before .before .before .before .before .before .put-digits2 .ensures) (c .before .before .put-byte2 .ensures)) (text-last (a .codes .now) (l .loop .k) h (a .count) t)
+    let placed = c .before .before in
+    let turn = placed .before .before .before .before in
+    let start = turn .before .before .before in
+    let a = start .args in
+    let e : turn .loop .k + 1 ≡ a .count = omega (arith, placed .before .before .before .loop-test .left, turn .loop .inv .0) in
+    let last = places-last (a .codes .now) (a .count) (start .pre .1 .0) (turn .loop .k) e in
+    placed .put-place2 .ensures ∙ ap (pasted (turn .loop .out) (a .at + 7 * turn .loop .k)) (sym last) ∙ turn .loop .inv .1 .same
 
 pub put-places-spec : {M : Type 1} → statement M
 put-places-spec =
@@ -84,16 +101,18 @@ put-places-spec =
     μ-loop
     loop-holds
     add-loop
-    mul-put-digits
-    shared-slice-read-put-digits
-    put-digits-requires
-    put-byte-requires
+    mul-put-place
+    add-put-place
+    mul-put-place-2
+    shared-slice-read-put-place
+    put-place-requires
     add-k
     loop-less
     loop-again
-    mul-put-digits-2
-    shared-slice-read-put-digits-2
-    put-digits-requires-2
-    put-byte-requires-2
+    mul-put-place-3
+    add-put-place-2
+    mul-put-place-4
+    shared-slice-read-put-place-2
+    put-place-requires-2
     same-length
     returns)

@@ -1,4 +1,4 @@
--- `writing::write` meets its contract. Assumes nothing.
+-- What is answered was judged first; where it is granted there is room for all of the text, and all of it is put.
 use mathlib.Core.Path.{_≡_, refl, sym, ap, _∙_}
 use native.Mathlib.Omega.{arith}
 use lib.ListN.{length}
@@ -13,7 +13,11 @@ use Rattle.header_writing.proofs.write.Tie as tie
 slice-aggregate-judge : tie.Need-slice-aggregate-judge
 slice-aggregate-judge c = search needs
 
-said : (c : tie.After-known-told) → granted (c .before .w .given .0 .0) ≡ writeSays (alertIn (c .before .before .before .before .before .before .before .args .f)) (length (c .before .before .before .before .before .before .before .args .out .now))
+abbrev start : tie.After-judge → tie.Start
+start c = c .before .before .before .before
+
+said : (c : tie.After-known-told)
+    → let a = start (c .before .before .before) .args in granted (c .before .w .given .0 .0) ≡ writeSays (alertIn (a .f)) (length (a .out .now))
 said c = sym (ap saidWrote (c .before .w .given .1)) ∙ c .before .before .before .judge .ensures
 
 judge-requires : tie.Need-judge-requires
@@ -27,15 +31,16 @@ enum-told c = search needs
 
 returns : tie.Need-returns
 returns c =
-    let a = c .before .before .before .before .before .before .args in
-    left-no (a .f) (a .out .now) (c .before .before .judge .result) (c .enum-told .given .0 .0) (c .before .before .judge .ensures) (c .enum-told .given .1)
+    let judged = c .before .before in
+    let a = start judged .args in
+    left-no (a .f) (a .out .now) (judged .judge .result) (c .enum-told .given .0 .0) (judged .judge .ensures) (c .enum-told .given .1)
 
 slice-aggregate-put-all : tie.Need-slice-aggregate-put-all
 slice-aggregate-put-all c = search needs
 
 put-all-requires : tie.Need-put-all-requires
 put-all-requires c κs =
-    let a = c .before .before .before .before .before .before .before .before .before .args in
+    let a = start (c .before .before .before .before .before) .args in
     let l : 31 ≡ length (a .f .places) = slice-aggregate-put-all c in
     ((refl, sym l), granted-size (a .f) (length (a .out .now)) _ (said (c .before .before)))
 
@@ -45,10 +50,10 @@ same-length c = search needs
 returns-2 : tie.Need-returns-2
 returns-2 c =
     let k = c .before .before .before .before .before in
-    let a = c .before .before .before .before .before .before .before .before .before .before .before .before .args in
+    let a = start (k .before .before .before) .args in
     let l : 31 ≡ length (a .f .places) = slice-aggregate-put-all (c .before .before .before) in
     let g = granted-size (a .f) (length (a .out .now)) _ (said k) in
-    left-yes (a .f) (a .out .now) _ _ (omega (arith, g .1 .0)) (said k) (c .before .before .put-all .ensures .space)
+    left-yes (a .f) (a .out .now) _ _ (omega (arith, g .1 .0)) (said k) (c .before .before .put-all .ensures)
 
 pub write-spec : {M : Type 1} → statement M
 write-spec =

@@ -1,4 +1,4 @@
--- `lines::end_of` meets its contract: what is left of the text ends where the whole does. Assumes nothing.
+-- What is left of the text ends where the whole does: no byte 10 was passed.
 use Prim.Native.Nat.{_+_, _-_, _≤_}
 use mathlib.Core.Path.{_≡_, refl}
 use native.Mathlib.Omega.{arith}
@@ -34,7 +34,8 @@ loop-less c = omega arith
 loop-again : tie.Need-loop-again Inv-loop μ-loop
 loop-again c =
     let u = c .before .before in
-    (omega arith, omega arith, omega (arith, u .before .loop .inv .2, end-more (u .before .before .args .input .now) (u .before .loop .i) (omega arith) (c .if1 .left)))
+    let more = end-more (u .before .before .args .input .now) (u .before .loop .i) (omega arith) (c .if1 .left) in
+    (omega arith, omega arith, omega (arith, u .before .loop .inv .2, more))
 
 returns-2 : tie.Need-returns-2 Inv-loop μ-loop
 returns-2 c = omega (arith, c .before .loop .inv .2, end-none (c .before .before .args .input .now) (c .before .loop .i) (omega arith))

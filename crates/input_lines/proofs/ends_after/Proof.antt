@@ -1,4 +1,4 @@
--- `lines::ends_after` meets its contract. Assumes nothing.
+-- Where the text is too short there is no byte to look at; else the one comparison is the answer.
 use native.Mathlib.Omega.{arith}
 use Rattle.input_lines.proofs.Fixed.{ends-not, ends-by}
 use borrow.Author.Needs.{needs}

@@ -1,4 +1,4 @@
--- `lines::header_line` meets its contract. Assumes nothing.
+-- A line that was found has at most 300 bytes before its byte 10; it is a header line if its first 7 bytes are the word.
 use Prim.Native.Nat.{_+_, _-_}
 use mathlib.Core.Path.{_≡_, sym, _∙_}
 use native.Mathlib.Omega.{arith}
@@ -9,7 +9,10 @@ use borrow.Author.Needs.{needs}
 use Rattle.input_lines.proofs.header_line.Statement.{statement}
 use Rattle.input_lines.proofs.header_line.Tie as tie
 
-line : (c : tie.After-known-told) → Found (c .before .before .before .before .before .args .input .now) (c .before .before .before .before .before .args .at) (c .before .e .given .0 .0)
+abbrev start : tie.After-known-told → tie.Start
+start c = c .before .before .before .before .before
+
+line : (c : tie.After-known-told) → Found (start c .args .input .now) (start c .args .at) (c .before .e .given .0 .0)
 line c = found _ _ _ (sym (c .before .before .before .line-at .ensures) ∙ c .before .e .given .1)
 
 line-at-requires : tie.Need-line-at-requires
@@ -51,9 +54,11 @@ same-requires c κs = search needs
 returns-3 : tie.Need-returns-3
 returns-3 c =
     let u = c .before .before .before .before in
-    let at = u .before .before .before .before .before .before .args .at in
+    let s = c .before .same in
+    let at = start (u .before) .args .at in
     let e : at + 7 - at ≡ 7 = omega arith in
-    record { says = header-other _ _ _ (line (u .before)) (u .if1 .left) (sym (rw e at (c .before .same .ensures .says)) ∙ not-true (c .before .same .result) (c .if2 .taken)) }
+    let other = sym (rw e at (s .ensures .says)) ∙ not-true (s .result) (c .if2 .taken) in
+    record { says = header-other _ _ _ (line (u .before)) (u .if1 .left) other }
 
 add-t7 : tie.Need-add-t7
 add-t7 c = omega (arith, line (c .before .before .before .before .before) .inside)
@@ -61,9 +66,11 @@ add-t7 c = omega (arith, line (c .before .before .before .before .before) .insid
 returns-4 : tie.Need-returns-4
 returns-4 c =
     let u = c .before .before .before .before in
-    let at = u .before .before .before .before .before .before .args .at in
+    let s = c .before .same in
+    let at = start (u .before) .args .at in
     let e : at + 7 - at ≡ 7 = omega arith in
-    record { says = header-good _ _ _ (line (u .before)) (u .if1 .left) (sym (rw e at (c .before .same .ensures .says)) ∙ not-false (c .before .same .result) (c .if2 .left)) }
+    let word = sym (rw e at (s .ensures .says)) ∙ not-false (s .result) (c .if2 .left) in
+    record { says = header-good _ _ _ (line (u .before)) (u .if1 .left) word }
 
 pub header-line-spec : {M : Type 1} → statement M
 header-line-spec =

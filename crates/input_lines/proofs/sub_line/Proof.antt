@@ -1,4 +1,4 @@
--- `lines::sub_line` meets its contract. Assumes nothing.
+-- One look at the byte 18 behind the start tells whether the line can end there; if so, its 18 bytes decide.
 use Prim.Native.Nat.{_+_, _-_, _<_}
 use mathlib.Core.Path.{_≡_, sym, _∙_}
 use mathlib.Core.Bool.{true}

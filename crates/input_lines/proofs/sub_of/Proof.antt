@@ -1,10 +1,21 @@
--- `lines::sub_of` meets its contract. Assumes nothing.
+-- The length is tested first, so every part stands in the line; the first part that is wrong refuses it, and three right ones are the answer.
 use mathlib.Core.Path.{sym, _∙_}
 use native.Mathlib.Omega.{arith}
 use Rattle.input_lines.proofs.Forms.{sub-length, sub-1, sub-2, sub-3, sub-4}
 use borrow.Author.Needs.{needs}
 use Rattle.input_lines.proofs.sub_of.Statement.{statement}
 use Rattle.input_lines.proofs.sub_of.Tie as tie
+
+-- the test of the length, from behind the first number
+abbrev tested : tie.After-known-told → tie.Else1
+tested c = c .before .before .before .before .before
+
+-- the first number, from behind the second; the second, from behind the third
+abbrev first : tie.After-known-told2 → tie.After-known-told
+first c = c .before .before .before .before .before
+
+abbrev second : tie.After-known-told3 → tie.After-known-told2
+second c = c .before .before .before .before .before
 
 returns : tie.Need-returns
 returns c = sub-length _ _ (c .if1 .taken)
@@ -22,7 +33,9 @@ enum-told : tie.Need-enum-told
 enum-told c = search needs
 
 returns-2 : tie.Need-returns-2
-returns-2 c = sub-1 (c .before .before .before .before .before .before .args .line .now) _ (omega arith) (sym (c .before .before .tagged .ensures) ∙ c .enum-told .given .1)
+returns-2 c =
+    let u = c .before .before in
+    sub-1 _ _ (u .before .before .if1 .left) (sym (u .tagged .ensures) ∙ c .enum-told .given .1)
 
 slice-aggregate-tagged-2 : tie.Need-slice-aggregate-tagged-2
 slice-aggregate-tagged-2 c = search needs
@@ -37,7 +50,9 @@ enum-told-2 : tie.Need-enum-told-2
 enum-told-2 c = search needs
 
 returns-3 : tie.Need-returns-3
-returns-3 c = sub-2 (c .before .before .before .before .before .before .before .before .before .before .before .args .line .now) _ (omega arith) (sym (c .before .before .tagged2 .ensures) ∙ c .enum-told2 .given .1)
+returns-3 c =
+    let u = c .before .before in
+    sub-2 _ _ (tested (u .before .before) .if1 .left) (sym (u .tagged2 .ensures) ∙ c .enum-told2 .given .1)
 
 slice-aggregate-tagged-3 : tie.Need-slice-aggregate-tagged-3
 slice-aggregate-tagged-3 c = search needs
@@ -52,13 +67,17 @@ enum-told-3 : tie.Need-enum-told-3
 enum-told-3 c = search needs
 
 returns-4 : tie.Need-returns-4
-returns-4 c = sub-3 (c .before .before .before .before .before .before .before .before .before .before .before .before .before .before .before .before .args .line .now) _ (omega arith) (sym (c .before .before .tagged3 .ensures) ∙ c .enum-told3 .given .1)
+returns-4 c =
+    let u = c .before .before in
+    sub-3 _ _ (tested (first (u .before .before)) .if1 .left) (sym (u .tagged3 .ensures) ∙ c .enum-told3 .given .1)
 
 returns-5 : tie.Need-returns-5
 returns-5 c =
-    sub-4 (c .before .before .before .before .before .before .before .before .before .before .before .before .before .before .before .before .before .args .line .now) _ (omega arith) _ _ _
-    (sym (c .before .before .before .before .before .before .before .before .before .before .before .before .before .tagged .ensures) ∙ c .before .before .before .before .before .before .before .before .before .before .before .place .given .1)
-    (sym (c .before .before .before .before .before .before .before .before .tagged2 .ensures) ∙ c .before .before .before .before .before .before .client .given .1)
+    let d = second c in
+    let y = first d in
+    sub-4 _ _ (tested y .if1 .left) _ _ _
+    (sym (y .before .before .before .tagged .ensures) ∙ y .before .place .given .1)
+    (sym (d .before .before .before .tagged2 .ensures) ∙ d .before .client .given .1)
     (sym (c .before .before .before .tagged3 .ensures) ∙ c .before .wish .given .1)
 
 pub sub-of-spec : {M : Type 1} → statement M

@@ -1,4 +1,4 @@
--- `lines::tagged` meets its contract. Assumes nothing.
+-- The word is compared with a part of its own length; the digits behind it decide the rest.
 use Prim.Native.Nat.{_+_, _-_}
 use mathlib.Core.Path.{_≡_, sym, _∙_}
 use native.Mathlib.Omega.{arith}
@@ -40,7 +40,8 @@ returns-2 c =
     let u = v .before in
     let a = u .before .before .before .before .args in
     let e : a .at + length (a .word .now) - a .at ≡ length (a .word .now) = omega arith in
-    c .digits-at .ensures .says ∙ tag-yes (a .word .now) (a .w) (a .line .now) (a .at) (sym (rw e at (u .same .ensures .says)) ∙ not-false (u .same .result) (v .if1 .left))
+    let word = sym (rw e at (u .same .ensures .says)) ∙ not-false (u .same .result) (v .if1 .left) in
+    c .digits-at .ensures .says ∙ tag-yes (a .word .now) (a .w) (a .line .now) (a .at) word
 
 pub tagged-spec : {M : Type 1} → statement M
 tagged-spec =

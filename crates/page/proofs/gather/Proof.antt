@@ -1,4 +1,4 @@
--- `page::gather` meets its contract: what is gathered is added first, and then what is left has its say. Assumes nothing.
+-- The loop's invariant: what is gathered is added first, and then what is left has its say.
 use Prim.Native.Nat.{_-_}
 use mathlib.Core.Path.{sym, ap, _∙_}
 use native.Mathlib.Omega.{arith}
@@ -38,34 +38,48 @@ enum-told : tie.Need-enum-told Inv-loop μ-loop
 enum-told c = search needs
 
 same-length-2 : tie.Need-same-length-2 Inv-loop μ-loop
-same-length-2 c = c .before .before .before .before .before .loop .inv .len ∙ sym (c .before .before .before .before .before .before .before .before .pre .1)
+same-length-2 c =
+    let at = c .before .before .before .before .before in
+    at .loop .inv .len ∙ sym (at .before .before .before .pre .1)
 
 returns-2 : tie.Need-returns-2 Inv-loop μ-loop
 returns-2 c =
-    let g = c .before .before .before .before .before .loop .inv in
-    record {
-      fits = omega (arith, g .len, g .few);
-      says = cut-short _ _ _ _ _ g (c .before .before .before .before .loop-test .taken) (sym (c .before .before .sub-line .ensures .says) ∙ ap saidSub (c .enum-told .given .1));
-    }
+    let asked = c .before .before in
+    let turn = asked .before .before in
+    let g = turn .before .loop .inv in
+    let bad = sym (asked .sub-line .ensures .says) ∙ ap saidSub (c .enum-told .given .1) in
+    record { fits = omega (arith, g .len, g .few); says = cut-short _ _ _ _ _ g (turn .loop-test .taken) bad }
 
 put-item-requires : tie.Need-put-item-requires Inv-loop μ-loop
 put-item-requires c κs = let g = c .before .before .before .before .before .before .before .loop .inv in (omega (arith, g .len), omega arith)
 
 add-count : tie.Need-add-count Inv-loop μ-loop
-add-count c = let g = c .before .before .before .before .before .before .before .before .before .before .loop .inv in omega (arith, g .few)
+add-count c =
+    let known = c .before .before .before .before .before in
+    let g = known .before .before .before .before .before .loop .inv in
+    omega (arith, g .few)
 
 loop-less : tie.Need-loop-less Inv-loop μ-loop
 loop-less c =
-    let q = c .before .before .before .before .before .before .before .before .before .before .loop in
-    let v = c .before .before .before .before .before .place .given .0 in
-    let t = took-in subLine _ (q .i) (v .0, (v .1 .0, v .1 .1 .0)) (v .1 .1 .1 .0) (sym (c .before .before .before .before .before .before .before .sub-line .ensures .says) ∙ ap saidSub (c .before .before .before .before .before .place .given .1)) in
+    let known = c .before .before .before .before .before in
+    let asked = known .before .before in
+    let q = asked .before .before .before .loop in
+    let v = known .place .given .0 in
+    let read = sym (asked .sub-line .ensures .says) ∙ ap saidSub (known .place .given .1) in
+    let t = took-in subLine _ (q .i) (v .0, (v .1 .0, v .1 .1 .0)) (v .1 .1 .1 .0) read in
     omega (arith, t .0, t .1)
 
 loop-again : tie.Need-loop-again Inv-loop μ-loop
 loop-again c =
-    let q = c .before .before .before .before .before .before .before .before .before .before .loop in
-    let v = c .before .before .before .before .before .place .given .0 in
-    went _ _ (q .words) (q .count) (q .i) (q .inv) (v .0) (v .1 .0) (v .1 .1 .0) (v .1 .1 .1 .0) _ (c .before .before .before .before .before .before .before .before .before .loop-test .taken) (omega arith) (sym (c .before .before .before .before .before .before .before .sub-line .ensures .says) ∙ ap saidSub (c .before .before .before .before .before .place .given .1)) (c .before .before .put-item .ensures)
+    let called = c .before .before in
+    let known = called .before .before .before in
+    let asked = known .before .before in
+    let turn = asked .before .before in
+    let q = turn .before .loop in
+    let v = known .place .given .0 in
+    let read = sym (asked .sub-line .ensures .says) ∙ ap saidSub (known .place .given .1) in
+    went _ _ (q .words) (q .count) (q .i) (q .inv) (v .0) (v .1 .0) (v .1 .1 .0) (v .1 .1 .1 .0) _ (turn .loop-test .taken) (omega arith) read
+    (called .put-item .ensures)
 
 same-length-3 : tie.Need-same-length-3 Inv-loop μ-loop
 same-length-3 c = c .before .loop .inv .len ∙ sym (c .before .before .before .before .pre .1)

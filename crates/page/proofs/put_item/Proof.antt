@@ -1,4 +1,4 @@
--- `page::put_item` meets its contract. Assumes nothing.
+-- Three stores, one after the other, are the three words pasted there.
 use native.Mathlib.Omega.{arith}
 use lib.ListN.{length-set}
 use Rattle.page.proofs.Gathering.{three-stores}

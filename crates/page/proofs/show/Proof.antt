@@ -1,4 +1,4 @@
--- `page::show` meets its contract. Assumes nothing.
+-- The front of the words that hold the pairs is as long as is taken of it.
 use mathlib.Core.Path.{sym}
 use native.Mathlib.Omega.{arith}
 use lib.ListN.{length-take}

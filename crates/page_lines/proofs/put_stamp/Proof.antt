@@ -1,62 +1,64 @@
--- `page_lines::put_stamp` meets its contract. Assumes nothing.
-use Rattle.page_lines.proofs.Each.{parts-two}
+-- What is left to write, pasted at its index, gives the whole: the word, then date and time with the line's end.
+use mathlib.Core.Path.{refl, _∙_}
+use Prim.Native.Nat.{_+_, _≤_}
+use mathlib.Core.List.{[], _∷_, _++_}
+use native.Mathlib.Omega.{arith}
+use lib.ListN.{length}
+use Rattle.codec.proofs.Puts.{put-yes, put-next}
+use Rattle.page_lines.specs.Lines.{whenText}
+use Rattle.page_lines.proofs.Room.{line-no, line-room, line-todo}
 use borrow.Author.Needs.{needs}
 use Rattle.page_lines.proofs.put_stamp.Statement.{statement}
 use Rattle.page_lines.proofs.put_stamp.Tie as tie
 
-cast-put-tag : tie.Need-cast-put-tag
-cast-put-tag c = search needs
+-- the room that was asked for
+room : (c : tie.Else1) → let a = c .before .before .before .before .args in a .at + (length (a .word .now) + 12) ≤ length (a .out .now)
+room c =
+    let a = c .before .before .before .before .args in
+    let fits = c .before .line-fits in
+    line-room (a .out .now) (a .at) (a .word .now) (whenText (a .s)) 11 refl (fits .result) (fits .ensures) (c .if1 .left)
 
-put-tag-requires : tie.Need-put-tag-requires
-put-tag-requires c κs = search needs
+line-fits-requires : tie.Need-line-fits-requires
+line-fits-requires c κs = search needs
 
-slice-aggregate-put-tag : tie.Need-slice-aggregate-put-tag
-slice-aggregate-put-tag c = search needs
+returns : tie.Need-returns
+returns c =
+    let a = c .before .before .before .before .args in
+    let fits = c .before .line-fits in
+    line-no (a .out .now) (a .at) (a .word .now) (whenText (a .s)) 11 refl (fits .result) (fits .ensures) (c .if1 .taken)
 
-cast-put-tag-2 : tie.Need-cast-put-tag-2
-cast-put-tag-2 c = search needs
+put-bytes-requires : tie.Need-put-bytes-requires
+put-bytes-requires c κs = search needs
 
-put-tag-requires-2 : tie.Need-put-tag-requires-2
-put-tag-requires-2 c κs = search needs
+add-put-when : tie.Need-add-put-when
+add-put-when c = omega (arith, room (c .before .before .before .before .before))
 
-slice-aggregate-put-tag-2 : tie.Need-slice-aggregate-put-tag-2
-slice-aggregate-put-tag-2 c = search needs
-
-cast-put-tag-3 : tie.Need-cast-put-tag-3
-cast-put-tag-3 c = search needs
-
-put-tag-requires-3 : tie.Need-put-tag-requires-3
-put-tag-requires-3 c κs = search needs
-
-slice-aggregate-put-number : tie.Need-slice-aggregate-put-number
-slice-aggregate-put-number c = search needs
-
-cast-put-number : tie.Need-cast-put-number
-cast-put-number c = search needs
-
-put-number-requires : tie.Need-put-number-requires
-put-number-requires c κs = search needs
+put-when-requires : tie.Need-put-when-requires
+put-when-requires c κs = omega (arith, c .before .before .before .put-bytes .kept, room (c .before .before .before .before .before))
 
 same-length : tie.Need-same-length
 same-length c = search needs
 
-returns : tie.Need-returns
-returns c = parts-two (c .before .before .before .before .before .before .before .before .before .before .before .before .before .before .before .before .before .before .before .before .put-tag .ensures) (parts-two (c .before .before .before .before .before .before .before .before .before .before .before .before .before .before .put-tag2 .ensures) (parts-two (c .before .before .before .before .before .before .before .before .put-tag3 .ensures) (c .before .before .put-number .ensures)))
+returns-2 : tie.Need-returns-2
+returns-2 c =
+    let second = c .before .before in
+    let first = second .before .before .before .before in
+    let asked = first .before .before in
+    let a = asked .before .before .before .before .args in
+    let fits = asked .before .line-fits in
+    let word = a .word .now in
+    let all = line-todo (a .out .now) (a .at) word (whenText (a .s)) 11 refl (fits .result) (fits .ensures) (asked .if1 .left) in
+    let rest = put-next word (whenText (a .s) ++ (10 ∷ [])) all (first .put-bytes .ensures) (a .at + length word) refl in
+    put-yes (all .room) (second .put-when .ensures ∙ rest .same)
 
 pub put-stamp-spec : {M : Type 1} → statement M
 put-stamp-spec =
     tie.close
     (tie.spec
-    cast-put-tag
-    put-tag-requires
-    slice-aggregate-put-tag
-    cast-put-tag-2
-    put-tag-requires-2
-    slice-aggregate-put-tag-2
-    cast-put-tag-3
-    put-tag-requires-3
-    slice-aggregate-put-number
-    cast-put-number
-    put-number-requires
+    line-fits-requires
+    returns
+    put-bytes-requires
+    add-put-when
+    put-when-requires
     same-length
-    returns)
+    returns-2)

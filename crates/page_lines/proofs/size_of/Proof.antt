@@ -1,4 +1,4 @@
--- `page_lines::size_of` meets its contract: the digits counted, and those that what is left has. Assumes nothing.
+-- The digits counted, and those that what is left has, are one more than those of the whole.
 use Prim.Native.Nat.{_+_, _≤_}
 use mathlib.Core.Path.{_≡_}
 use native.Mathlib.Omega.{arith}

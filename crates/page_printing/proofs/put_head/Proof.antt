@@ -1,8 +1,12 @@
--- `printing::put_head` meets its contract. Assumes nothing.
+-- The lines that are left, pasted at their index, give the whole: client, issue, end.
+use mathlib.Core.Path.{refl, _∙_}
 use mathlib.Core.List.{[], _∷_}
+use native.Mathlib.Omega.{arith}
 use Rattle.laws.specs.Numbers.{dig}
-use Rattle.page_printing.specs.Page.{line, stampText}
-use Rattle.page_printing.proofs.Writing.{line-put, stamp-put, lines-two}
+use Rattle.laws.proofs.Pasted.{todo}
+use Rattle.page_printing.specs.Page.{line, stampText, ended}
+use Rattle.page_printing.specs.Steps.{headLines}
+use Rattle.page_printing.proofs.Writing.{line-put, line-then}
 use borrow.Author.Needs.{needs}
 use Rattle.page_printing.proofs.put_head.Statement.{statement}
 use Rattle.page_printing.proofs.put_head.Tie as tie
@@ -29,12 +33,18 @@ same-length : tie.Need-same-length
 same-length c = search needs
 
 returns : tie.Need-returns
+unfolding ended
 returns c =
-    let a = c .before .before .before .before .before .before .before .before .before .before .before .before .before .before .before .before .args in
+    let third = c .before .before in
+    let second = third .before .before .before .before .before in
+    let first = second .before .before .before .before .before in
+    let a = first .before .before .before .before .args in
     let issued = line "issued=" (stampText (a .issued)) in
     let until = line "until=" (stampText (a .until)) in
-    lines-two (line "client=" (dig 4 (a .client))) (issued ∷ until ∷ []) (line-put "client=" (c .before .before .before .before .before .before .before .before .before .before .before .before .put-number .ensures))
-    (lines-two issued (until ∷ []) (stamp-put "issued=" (a .issued) (c .before .before .before .before .before .before .before .put-stamp .ensures)) (stamp-put "until=" (a .until) (c .before .before .put-stamp2 .ensures)))
+    let all = todo (a .out .now) 0 (ended (headLines (a .client) (a .issued) (a .until))) (omega arith) in
+    let times = line-then "client=" (dig 4 (a .client)) (issued ∷ until ∷ []) all (first .put-number .ensures) 12 refl in
+    let last = line-then "issued=" (stampText (a .issued)) (until ∷ []) times (second .put-stamp .ensures) 31 refl in
+    line-put "until=" (stampText (a .until)) [] last (third .put-stamp2 .ensures) ∙ last .same
 
 pub put-head-spec : {M : Type 1} → statement M
 put-head-spec =

@@ -1,4 +1,4 @@
--- `place::packed_match` meets its contract. Assumes nothing.
+-- The three tests of places, on the bits of packed ones.
 use mathlib.Core.Path.{sym, _∙_}
 use borrow.Author.Needs.{needs}
 use borrow.Author.Tests.{not-true, not-false}

@@ -1,4 +1,4 @@
--- `report::count_hits` meets its contract: so many hits up to record i. Assumes nothing.
+-- The loop's invariant: so many hits are counted as stand among the records from..i.
 use Prim.Native.Nat.{_-_, _≤_}
 use mathlib.Core.Path.{_≡_, sym, ap, _∙_}
 use mathlib.Core.Logic.{⊎-elim}
@@ -8,12 +8,13 @@ use Rattle.laws.specs.Lists.{tally, one}
 use Rattle.book_rules.specs.Rules.{recAt}
 use Rattle.report.specs.Steps.{found, span}
 use Rattle.report.proofs.Spans.{span-none, tally-span}
-use Rattle.report.proofs.Found.{not-own}
+use Rattle.report.proofs.Found.{own, not-own}
 use Rattle.report.proofs.count_hits.Statement.{statement}
 use Rattle.report.proofs.count_hits.Tie as tie
 
 abbrev Inv-loop : tie.InvT-loop
-Inv-loop book from to wanted sent hits₀ i₀ hits i = (from ≤ i) × (i ≤ to) × (hits ≤ i - from) × (hits ≡ tally (found wanted sent) (span book from (i - from)))
+Inv-loop book from to wanted sent hits₀ i₀ hits i =
+    (from ≤ i) × (i ≤ to) × (hits ≤ i - from) × (hits ≡ tally (found wanted sent) (span book from (i - from)))
 
 abbrev μ-loop : tie.MeasureT-loop
 μ-loop book from to wanted sent hits₀ i₀ hits i = to - i
@@ -36,23 +37,23 @@ mul-second-2 c = search needs
 shared-slice-read-second : tie.Need-shared-slice-read-second Inv-loop μ-loop
 shared-slice-read-second c = search needs
 
-client-of-requires : tie.Need-client-of-requires Inv-loop μ-loop
-client-of-requires c κs = search needs
+is-own-requires : tie.Need-is-own-requires Inv-loop μ-loop
+is-own-requires c κs = search needs
 
-mul-is-hit : tie.Need-mul-is-hit Inv-loop μ-loop
-mul-is-hit c = search needs
+mul-record-matches : tie.Need-mul-record-matches Inv-loop μ-loop
+mul-record-matches c = search needs
 
-add-is-hit : tie.Need-add-is-hit Inv-loop μ-loop
-add-is-hit c = search needs
+add-record-matches : tie.Need-add-record-matches Inv-loop μ-loop
+add-record-matches c = search needs
 
-mul-is-hit-2 : tie.Need-mul-is-hit-2 Inv-loop μ-loop
-mul-is-hit-2 c = search needs
+mul-record-matches-2 : tie.Need-mul-record-matches-2 Inv-loop μ-loop
+mul-record-matches-2 c = search needs
 
-shared-slice-read-is-hit : tie.Need-shared-slice-read-is-hit Inv-loop μ-loop
-shared-slice-read-is-hit c = search needs
+shared-slice-read-record-matches : tie.Need-shared-slice-read-record-matches Inv-loop μ-loop
+shared-slice-read-record-matches c = search needs
 
-is-hit-requires : tie.Need-is-hit-requires Inv-loop μ-loop
-is-hit-requires c κs = search needs
+record-matches-requires : tie.Need-record-matches-requires Inv-loop μ-loop
+record-matches-requires c κs = search needs
 
 add-hits : tie.Need-add-hits Inv-loop μ-loop
 add-hits c = search needs
@@ -65,13 +66,20 @@ loop-less c = search needs
 
 loop-again : tie.Need-loop-again Inv-loop μ-loop
 loop-again c =
-    let p = c .before .before .before .before .before .loop in
-    let a = c .before .before .before .before .before .before .before .before .args in
+    let at = c .before .before .before .before in
+    let p = at .loop in
+    let a = at .before .before .before .args in
     let r = recAt (a .book .now) (p .i) in
-    let m = tally-span (a .book .now) (a .from) (p .i) (p .inv .0) (found (a .wanted) (a .sent .now)) in
-    ⊎-elim (λ b. (omega arith, omega arith, omega arith, omega (arith, m, ap one (sym (b .2 .ensures) ∙ b .3 .taken))))
-    (⊎-elim (λ b. (omega arith, omega arith, omega arith, omega (arith, m, ap one (sym (b .2 .ensures) ∙ b .3 .left))))
-    (λ b. (omega arith, omega arith, omega arith, omega (arith, m, ap one (not-own (a .wanted) (a .sent .now) r (λ q. b .0 .left (c .before .before .client-of .ensures .says ∙ q))))))) (c .if1 .came)
+    let w = a .wanted in
+    let s = a .sent .now in
+    let m = tally-span (a .book .now) (a .from) (p .i) (p .inv .0) (found w s) in
+    let v = sym (c .before .is-own .ensures) in
+    ⊎-elim
+    (λ b. let f = own w s r (v ∙ b .0 .taken) ∙ sym (b .2 .ensures) ∙ b .3 .taken in (omega arith, omega arith, omega arith, omega (arith, m, ap one f)))
+    (⊎-elim
+    (λ b. let f = own w s r (v ∙ b .0 .taken) ∙ sym (b .2 .ensures) ∙ b .3 .left in (omega arith, omega arith, omega arith, omega (arith, m, ap one f)))
+    (λ b. let f = not-own w s r (v ∙ b .0 .left) in (omega arith, omega arith, omega arith, omega (arith, m, ap one f))))
+    (c .if1 .came)
 
 returns : tie.Need-returns Inv-loop μ-loop
 returns c =
@@ -90,12 +98,12 @@ count-hits-spec =
     add-second
     mul-second-2
     shared-slice-read-second
-    client-of-requires
-    mul-is-hit
-    add-is-hit
-    mul-is-hit-2
-    shared-slice-read-is-hit
-    is-hit-requires
+    is-own-requires
+    mul-record-matches
+    add-record-matches
+    mul-record-matches-2
+    shared-slice-read-record-matches
+    record-matches-requires
     add-hits
     add-i
     loop-less

@@ -1,4 +1,4 @@
--- `report::has_class` meets its contract. Assumes nothing.
+-- The class is one of 1 to 6, and its bit of the wish is the one that a shift brings down.
 use borrow.Author.Needs.{needs}
 use borrow.Author.Tests.{lt-leb, le-leb}
 use Rattle.report.specs.Hits.{hasClass}

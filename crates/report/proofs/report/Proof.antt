@@ -1,34 +1,48 @@
--- `report::report` meets its contract. Assumes nothing.
-use mathlib.Core.Path.{sym, ap, _∙_}
+-- Each test that is passed leaves the next to say: the book's, the client's, then what the reader says of the header.
+use mathlib.Core.Path.{_≡_, sym, ap, _∙_}
+use mathlib.Core.Bool.{true, false}
+use borrow.Author.Needs.{needs}
 use borrow.Author.Tests.{not-true, not-false}
 use Rattle.header.specs.Answers.{alertIn}
-use Rattle.report.specs.Steps.{readRefusal}
-use Rattle.report.proofs.Stages.{bad-book, no-client, no-header, with-header, unread as unreadSays, read as readIs, readable}
-use borrow.Author.Needs.{needs}
+use Rattle.book_rules.specs.Form.{form, badClient}
+use Rattle.book_rules.specs.Rules.{good}
+use Rattle.report.proofs.Stages.{bad-book, no-client, no-header, with-header, unread, read-is, readable}
 use Rattle.report.proofs.report.Statement.{statement}
 use Rattle.report.proofs.report.Tie as tie
+
+-- past the first test, and past the second
+good-book : (c : tie.Else1) → good form (c .before .before .before .before .before .args .book .now) ≡ true
+good-book c = sym (c .before .is-good .ensures .says) ∙ not-false (c .before .is-good .result) (c .if1 .left)
+
+a-client : (c : tie.Else2) → badClient (c .before .before .before .before .before .before .before .args .client) ≡ false
+a-client c = sym (c .before .bad-client .ensures .says) ∙ c .if2 .left
 
 is-good-requires : tie.Need-is-good-requires
 is-good-requires c κs = search needs
 
-refused-requires : tie.Need-refused-requires
-refused-requires c κs = search needs
+refusal-requires : tie.Need-refusal-requires
+refusal-requires c κs = search needs
 
 returns : tie.Need-returns
 returns c =
-    let a = c .before .before .before .before .before .before .args in
-    bad-book (a .book .now) (a .client) (a .header .now) (a .at) (a .out .now) (c .refused .result) (sym (c .before .before .is-good .ensures .says) ∙ not-true (c .before .before .is-good .result) (c .before .if1 .taken)) (c .refused .ensures)
+    let tested = c .before .before in
+    let a = tested .before .before .before .before .args in
+    let bad = sym (tested .is-good .ensures .says) ∙ not-true (tested .is-good .result) (c .before .if1 .taken) in
+    bad-book (a .book .now) (a .client) (a .header .now) (a .at) (a .out .now) (c .refusal .result) bad (c .refusal .ensures)
 
 bad-client-requires : tie.Need-bad-client-requires
 bad-client-requires c κs = search needs
 
-refused-requires-2 : tie.Need-refused-requires-2
-refused-requires-2 c κs = search needs
+refusal-requires-2 : tie.Need-refusal-requires-2
+refusal-requires-2 c κs = search needs
 
 returns-2 : tie.Need-returns-2
 returns-2 c =
-    let a = c .before .before .before .before .before .before .before .before .args in
-    no-client (a .book .now) (a .client) (a .header .now) (a .at) (a .out .now) (sym (c .before .before .before .before .is-good .ensures .says) ∙ not-false (c .before .before .before .before .is-good .result) (c .before .before .before .if1 .left)) (c .refused2 .result) (sym (c .before .before .bad-client .ensures .says) ∙ c .before .if2 .taken) (c .refused2 .ensures)
+    let tested = c .before .before in
+    let passed = tested .before in
+    let a = passed .before .before .before .before .before .args in
+    let bad = sym (tested .bad-client .ensures .says) ∙ c .before .if2 .taken in
+    no-client (a .book .now) (a .client) (a .header .now) (a .at) (a .out .now) (good-book passed) (c .refusal2 .result) bad (c .refusal2 .ensures)
 
 read-requires : tie.Need-read-requires
 read-requires c κs = search needs
@@ -36,49 +50,61 @@ read-requires c κs = search needs
 enum-told : tie.Need-enum-told
 enum-told c = search needs
 
-enum-told-2 : tie.Need-enum-told-2
-enum-told-2 c = search needs
-
-unread-requires : tie.Need-unread-requires
-unread-requires c κs = search needs
-
-returns-3 : tie.Need-returns-3
-returns-3 c =
-    let a = c .before .before .before .before .before .before .before .before .before .before .before .args in
-    no-header (a .book .now) (a .client) (a .header .now) (a .at) (a .out .now) (sym (c .before .before .before .before .before .before .before .is-good .ensures .says) ∙ not-false (c .before .before .before .before .before .before .before .is-good .result) (c .before .before .before .before .before .before .if1 .left)) (sym (c .before .before .before .before .before .bad-client .ensures .says) ∙ c .before .before .before .before .if2 .left) (c .before .enum-told2 .given .0 .0) (c .before .enum-told2 .given .0 .1 .0) (c .unread .result)
-    (unreadSays (a .header .now) (c .before .before .before .read .result) (c .before .before .before .read .ensures) (c .before .enum-told2 .given .0 .0) (c .before .enum-told2 .given .0 .1 .0) (c .before .enum-told2 .given .1))
-    (c .unread .ensures ∙ ap readRefusal (c .before .enum-told2 .given .1))
-
 alert-report-requires : tie.Need-alert-report-requires
 alert-report-requires c κs =
-    let a = c .before .before .before .before .before .before .before .before .before .before .before .before .args in
-    ((sym (c .before .before .before .before .before .before .before .before .is-good .ensures .says) ∙ not-false (c .before .before .before .before .before .before .before .before .is-good .result) (c .before .before .before .before .before .before .before .if1 .left)), readable (a .header .now) (c .before .before .before .before .read .result) (c .before .before .before .before .read .ensures) (c .before .before .enum-told .given .1))
+    let told = c .before in
+    let reading = told .before .before in
+    let good = reading .before .before .before in
+    let text = good .before .before .before .before .before .args .header .now in
+    (good-book good, readable text (reading .read .result) (reading .read .ensures) (told .enum-told .given .1))
+
+enum-known-verdict : tie.Need-enum-known-verdict
+enum-known-verdict c = search needs
+
+refusal-at-requires : tie.Need-refusal-at-requires
+refusal-at-requires c κs = search needs
 
 same-length : tie.Need-same-length
 same-length c = search needs
 
+returns-3 : tie.Need-returns-3
+returns-3 c =
+    let called = c .before .before in
+    let told = called .before .before in
+    let reading = told .before .before in
+    let passed = reading .before in
+    let good = passed .before .before in
+    let a = good .before .before .before .before .before .args in
+    let r = reading .read .result in
+    with-header (a .book .now) (a .client) (a .header .now) (a .at) (a .out .now) (good-book good) (a-client passed) (alertIn (r .fields))
+    (called .alert-report .result) _ (read-is (a .header .now) r (reading .read .ensures) (told .enum-told .given .1)) (called .alert-report .ensures)
+
 returns-4 : tie.Need-returns-4
 returns-4 c =
-    let a = c .before .before .before .before .before .before .before .before .before .before .before .before .before .before .before .args in
-    let r = c .before .before .before .before .before .before .before .read .result in
-    with-header (a .book .now) (a .client) (a .header .now) (a .at) (a .out .now) (sym (c .before .before .before .before .before .before .before .before .before .before .before .is-good .ensures .says) ∙ not-false (c .before .before .before .before .before .before .before .before .before .before .before .is-good .result) (c .before .before .before .before .before .before .before .before .before .before .if1 .left)) (sym (c .before .before .before .before .before .before .before .before .before .bad-client .ensures .says) ∙ c .before .before .before .before .before .before .before .before .if2 .left) (alertIn (r .fields)) (c .before .before .alert-report .result) _
-    (readIs (a .header .now) r (c .before .before .before .before .before .before .before .read .ensures) (c .before .before .before .before .before .enum-told .given .1)) (c .before .before .alert-report .ensures)
+    let told = c .before .before in
+    let reading = told .before .before in
+    let passed = reading .before in
+    let good = passed .before .before in
+    let a = good .before .before .before .before .before .args in
+    let v = told .verdict .given in
+    no-header (a .book .now) (a .client) (a .header .now) (a .at) (a .out .now) (good-book good) (a-client passed) (v .0 .0) (v .0 .1 .0)
+    (c .refusal-at .result) (unread (a .header .now) (reading .read .result) (reading .read .ensures) (v .0 .0) (v .0 .1 .0) (v .1)) (c .refusal-at .ensures)
 
 pub report-spec : {M : Type 1} → statement M
 report-spec =
     tie.close
     (tie.spec
     is-good-requires
-    refused-requires
+    refusal-requires
     returns
     bad-client-requires
-    refused-requires-2
+    refusal-requires-2
     returns-2
     read-requires
     enum-told
-    enum-told-2
-    unread-requires
-    returns-3
     alert-report-requires
+    enum-known-verdict
+    refusal-at-requires
     same-length
+    returns-3
     returns-4)

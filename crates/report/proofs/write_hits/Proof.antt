@@ -1,19 +1,21 @@
--- `report::write_hits` meets its contract: the words of the hits up to record i stand there. Assumes nothing.
+-- The loop's invariant: the words of the hits among the records from..i stand from index at on, and e is the index after them.
 use Prim.Native.Nat.{_-_, _≤_}
-use mathlib.Core.Path.{_≡_, ap, _∙_}
+use mathlib.Core.Path.{_≡_, sym, ap, _∙_}
 use mathlib.Core.Logic.{⊎-elim}
 use native.Mathlib.Omega.{arith}
 use borrow.Author.Needs.{needs}
 use lib.ListN.{length}
+use Rattle.laws.specs.Lists.{one}
 use Rattle.book_rules.specs.Rules.{recAt}
-use Rattle.report.specs.Steps.{found, span, hitWords, Wrote}
+use Rattle.report.specs.Steps.{recordMatches, found, span, hitWords, WroteHits}
 use Rattle.report.proofs.Spans.{begun, fits, turn, turn-no}
-use Rattle.report.proofs.Found.{not-own}
+use Rattle.report.proofs.Found.{own, not-own}
 use Rattle.report.proofs.write_hits.Statement.{statement}
 use Rattle.report.proofs.write_hits.Tie as tie
 
 abbrev Inv-loop : tie.InvT-loop
-Inv-loop book from to wanted sent out₀ at e₀ i₀ out e i = (from ≤ i) × (i ≤ to) × (length out ≡ length out₀) × Wrote out₀ at (hitWords (found wanted sent) (span book from (i - from))) out e
+Inv-loop book from to wanted sent out₀ at e₀ i₀ out e i =
+    (from ≤ i) × (i ≤ to) × (length out ≡ length out₀) × WroteHits out₀ at (hitWords (found wanted sent) (span book from (i - from))) out e
 
 abbrev μ-loop : tie.MeasureT-loop
 μ-loop book from to wanted sent out₀ at e₀ i₀ out e i = to - i
@@ -35,8 +37,8 @@ mul-second-2 c = search needs
 shared-slice-read-second : tie.Need-shared-slice-read-second Inv-loop μ-loop
 shared-slice-read-second c = search needs
 
-client-of-requires : tie.Need-client-of-requires Inv-loop μ-loop
-client-of-requires c κs = search needs
+is-own-requires : tie.Need-is-own-requires Inv-loop μ-loop
+is-own-requires c κs = search needs
 
 mul-put-hit : tie.Need-mul-put-hit Inv-loop μ-loop
 mul-put-hit c = search needs
@@ -52,11 +54,18 @@ shared-slice-read-put-hit c = search needs
 
 put-hit-requires : tie.Need-put-hit-requires Inv-loop μ-loop
 put-hit-requires c κs =
-    let a = c .before .before .before .before .before .before .before .before .before .before .before .args in
-    let p = c .before .before .before .before .before .before .before .loop in
-    let f = fits (found (a .wanted) (a .sent .now)) (a .book .now) (a .from) (p .i) (a .to) (a .at) (a .out .now) (p .inv .0) (c .before .before .before .before .before .before .loop-test .taken) (c .before .before .before .before .before .before .before .before .before .before .before .pre .3) in
+    let own-record = c .before .before in
+    let turn = own-record .before .before .before in
+    let at = turn .before in
+    let p = at .loop in
+    let start = at .before .before .before .before in
+    let a = start .args in
+    let w = a .book .now in
+    let o = own (a .wanted) (a .sent .now) (recAt w (p .i)) (sym (own-record .before .is-own .ensures) ∙ own-record .if1 .taken) in
+    let k = found (a .wanted) (a .sent .now) in
+    let f = fits k w (a .from) (p .i) (a .to) (a .at) (a .out .now) (p .inv .0) (turn .loop-test .taken) (start .pre .3) in
     let n = p .inv .3 .next in
-    omega (arith, p .inv .2)
+    omega (arith, p .inv .2, ap one o)
 
 add-i : tie.Need-add-i Inv-loop μ-loop
 add-i c = search needs
@@ -66,23 +75,26 @@ loop-less c = search needs
 
 loop-again : tie.Need-loop-again Inv-loop μ-loop
 loop-again c =
-    let a = c .before .before .before .before .before .before .before .before .before .args in
-    let p = c .before .before .before .before .before .loop in
+    let in-turn = c .before .before .before in
+    let at = in-turn .before in
+    let p = at .loop in
+    let start = at .before .before .before .before in
+    let a = start .args in
+    let w = a .book .now in
+    let r = recAt w (p .i) in
     let k = found (a .wanted) (a .sent .now) in
+    let j = recordMatches (a .wanted .class) (a .sent .now) in
+    let v = sym (c .before .is-own .ensures) in
+    let below = in-turn .loop-test .taken in
     ⊎-elim
-    (λ b. (
-      omega arith,
-      omega arith,
-      ap length (b .6) ∙ b .3 .kept .1 .1 .1 .1 .0 ∙ p .inv .2,
-      rw (b .6, b .7) (turn k (a .book .now) (a .from) (p .i) (a .to) (a .at) (a .out .now) (p .inv .0) (c .before .before .before .before .loop-test .taken) (c .before .before .before .before .before .before .before .before .before .pre .3) (p .out) _ (p .e) _ (p .inv .3) (b .3 .ensures)),
-    ))
     (λ b.
-    let h = not-own (a .wanted) (a .sent .now) (recAt (a .book .now) (p .i)) (λ q. b .0 .left (c .before .before .client-of .ensures .says ∙ q)) in (
-      omega arith,
-      omega arith,
-      ap length (b .1) ∙ p .inv .2,
-      rw (b .1, b .2) (turn-no k (a .book .now) (a .from) (p .i) (a .to) (a .at) (a .out .now) (p .inv .0) (c .before .before .before .before .loop-test .taken) (c .before .before .before .before .before .before .before .before .before .pre .3) (p .out) (p .e) h (p .inv .3)),
-    ))
+    let o = own (a .wanted) (a .sent .now) r (v ∙ b .0 .taken) in
+    let t = turn k w (a .from) (p .i) (a .to) (a .at) (a .out .now) (p .inv .0) below (start .pre .3) j (sym o) (p .out) _ (p .e) _ (p .inv .3) in
+    (omega arith, omega arith, ap length (b .6) ∙ b .3 .kept .1 .1 .1 .1 .0 ∙ p .inv .2, rw (b .6, b .7) (t (b .3 .ensures))))
+    (λ b.
+    let o = not-own (a .wanted) (a .sent .now) r (v ∙ b .0 .left) in
+    let t = turn-no k w (a .from) (p .i) (a .to) (a .at) (a .out .now) (p .inv .0) below (start .pre .3) (p .out) (p .e) o (p .inv .3) in
+    (omega arith, omega arith, ap length (b .1) ∙ p .inv .2, rw (b .1, b .2) t))
     (c .if1 .came)
 
 same-length : tie.Need-same-length Inv-loop μ-loop
@@ -105,7 +117,7 @@ write-hits-spec =
     add-second
     mul-second-2
     shared-slice-read-second
-    client-of-requires
+    is-own-requires
     mul-put-hit
     add-put-hit
     mul-put-hit-2

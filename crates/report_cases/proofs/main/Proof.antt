@@ -1,4 +1,4 @@
--- `report_cases::main` is safe and ends: each case has two digits. Assumes nothing.
+-- Each case has two digits, since its number is below 100.
 use Prim.Native.Nat.{_≤_, _-_}
 use native.Mathlib.Omega.{arith}
 use borrow.Author.Needs.{needs}

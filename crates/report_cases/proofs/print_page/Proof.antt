@@ -1,4 +1,4 @@
--- `report_cases::print_page` is safe and ends. Assumes nothing.
+-- The page is no longer than the space that was lent for it.
 use Prim.Native.Nat.{ℕ}
 use mathlib.Core.Path.{sym}
 use native.Mathlib.Omega.{arith}
@@ -39,7 +39,9 @@ array-share-prefix-out : tie.Need-array-share-prefix-out
 array-share-prefix-out c = search needs
 
 slice-aggregate-write-all : tie.Need-slice-aggregate-write-all
-slice-aggregate-write-all c = sym (length-take-le _ _ (omega (arith, c .before .before .before .before .before .before .page .kept, length-replicate {A = ℕ} 65536 0)))
+slice-aggregate-write-all c =
+    let made = c .before .before .before .before .before .before in
+    sym (length-take-le _ _ (omega (arith, made .page .kept, length-replicate {A = ℕ} 65536 0)))
 
 write-all-requires : tie.Need-write-all-requires
 write-all-requires c κs = search needs

@@ -14,7 +14,7 @@ use borrow.Author.Needs.{needs}
 use borrow.Author.Tests.{eqb-false}
 use Rattle.libc.specs.Io.{Moved}
 use Rattle.laws.specs.Order.{choose}
-use Rattle.report_program.specs.Reading.{after, Within}
+use Rattle.report_program.specs.Reading.{afterRead, Within}
 use Rattle.report_program.specs.declared.Input.{Input}
 use Rattle.report_program.specs.declared.Input.the-variants.{More, Whole, Failed}
 use Rattle.report_program.proofs.read_input.Statement.{statement}
@@ -27,7 +27,7 @@ Brought space n (Whole m) = m ≡ n
 Brought space n Failed = Unit {0}
 
 brought : (space : List ℕ) (n : ℕ) (z : ℤ) → n ≤ length space → Moved (length (take (length space - n) (drop n space))) z
-    → Brought space n (after n z)
+    → Brought space n (afterRead n z)
 brought space n (pos k) h l = go (eqb k 0) refl
   where
     go : (b : Bool) → eqb k 0 ≡ b → Brought space n (choose b (Whole n) (More k))
@@ -56,12 +56,13 @@ taken c =
     let turn = c .before .before .before .before .before .before in
     let read = c .before .before .before .read in
     let told = toZ-ofZ w64 (read .result) (record { sfits = read .ok }) in
-    subst (At turn) (ap (after (turn .loop .n)) (sym told) ∙ sym (c .took .ensures))
+    subst (At turn) (ap (afterRead (turn .loop .n)) (sym told) ∙ sym (c .took .ensures))
     (brought (turn .loop .space) (turn .loop .n) (read .result) (turn .loop .inv .1) (read .ensures))
 
 -- where it brought bytes
 more : (c : tie.After-known-told Inv-loop μ-loop)
-    → At (c .before .before .before .before .before .before .before .before .before) (More (c .before .brought .given .0 .0))
+    → let took = c .before .before .before in
+    At (took .before .before .before .before .before .before) (More (c .before .brought .given .0 .0))
 more c =
     let took = c .before .before .before in
     subst (At (took .before .before .before .before .before .before)) (c .before .brought .given .1) (taken took)

@@ -13,20 +13,21 @@ use mir.Val.{Fits, toZ, ofZ}
 use mir.ValLaws.{toZ-ofZ}
 use borrow.Author.Tests.{ltb-true, eq-eqb, ne-eqb}
 use Rattle.laws.specs.Order.{choose}
-use Rattle.report_program.specs.Reading.{after}
+use Rattle.laws.proofs.Clash.{clash}
+use Rattle.report_program.specs.Reading.{afterRead}
 use Rattle.report_program.specs.declared.Input.{Input}
 use Rattle.report_program.specs.declared.Input.the-variants.{More, Whole, Failed}
 use Rattle.report_program.proofs.took.Statement.{statement}
 use Rattle.report_program.proofs.took.Tie as tie
 
-failed : (n : ℕ) (z : ℤ) → ltZ z (pos 0) ≡ true → Failed ≡ after n z
+failed : (n : ℕ) (z : ℤ) → ltZ z (pos 0) ≡ true → Failed ≡ afterRead n z
 failed n (pos k) e = absurd (omega (arith, ltb-true k 0 e))
 failed n (negsuc k) e = refl
 
 -- a number from 0 on is told by its natural number
-counted : (n : ℕ) (z : ℤ) → ltZ z (pos 0) ≡ false → T (nonNeg z) × (after n (pos (natAbs z)) ≡ after n z)
+counted : (n : ℕ) (z : ℤ) → ltZ z (pos 0) ≡ false → T (nonNeg z) × (afterRead n (pos (natAbs z)) ≡ afterRead n z)
 counted n (pos k) e = (tt, refl)
-counted n (negsuc k) e = absurd (let z : _≡_ {A = ℕ} 0 1 = cc in omega arith)
+counted n (negsuc k) e = clash cc
 
 -- what is read back, and that it is the number
 abbrev read-back : tie.Start → ℤ
@@ -36,11 +37,11 @@ back : (c : tie.Start) → read-back c ≡ c .args .got
 back c = toZ-ofZ w64 (c .args .got) (c .fits .got)
 
 -- so from 0 on it is told by the number that the cast gives
-told : (c : tie.Start) → ltZ (read-back c) (pos 0) ≡ false → after (c .args .n) (pos (natAbs (read-back c))) ≡ after (c .args .n) (c .args .got)
-told c e = counted (c .args .n) (read-back c) e .1 ∙ ap (after (c .args .n)) (back c)
+told : (c : tie.Start) → ltZ (read-back c) (pos 0) ≡ false → afterRead (c .args .n) (pos (natAbs (read-back c))) ≡ afterRead (c .args .n) (c .args .got)
+told c e = counted (c .args .n) (read-back c) e .1 ∙ ap (afterRead (c .args .n)) (back c)
 
 returns : tie.Need-returns
-returns c = failed (c .before .args .n) (read-back (c .before)) (c .if1 .taken) ∙ ap (after (c .before .args .n)) (back (c .before))
+returns c = failed (c .before .args .n) (read-back (c .before)) (c .if1 .taken) ∙ ap (afterRead (c .before .args .n)) (back (c .before))
 
 cast-k : tie.Need-cast-k
 cast-k c =

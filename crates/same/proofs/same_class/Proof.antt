@@ -1,4 +1,4 @@
--- `same::same_class` meets its contract. Assumes nothing.
+-- The three letters are asked in their order; the class is handed on as it is.
 use borrow.Author.Needs.{needs}
 use Rattle.same.proofs.same_class.Statement.{statement}
 use Rattle.same.proofs.same_class.Tie as tie

@@ -1,4 +1,4 @@
--- `same::same_listed` meets its contract. Assumes nothing.
+-- The three letters are asked in their order; yes is 1 and no is 0.
 use mathlib.Core.Path.{_≡_, refl, sym, ap, _∙_}
 use Prim.Native.Nat.{ℕ}
 use Rattle.laws.specs.Lists.{one}

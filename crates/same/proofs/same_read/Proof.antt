@@ -1,4 +1,4 @@
--- `same::same_read` meets its contract: it is the call of crate words. Assumes nothing.
+-- It is the call of crate c_words, whose promise is this one.
 use borrow.Author.Needs.{needs}
 use Rattle.same.proofs.same_read.Statement.{statement}
 use Rattle.same.proofs.same_read.Tie as tie

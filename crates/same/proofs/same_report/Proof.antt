@@ -1,4 +1,4 @@
--- `same::same_report` meets its contract: it is the call of crate words. Assumes nothing.
+-- The four numbers make the clock of the promise; the rest is the call of crate c_words.
 use borrow.Author.Needs.{needs}
 use Rattle.same.proofs.same_report.Statement.{statement}
 use Rattle.same.proofs.same_report.Tie as tie

@@ -1,4 +1,4 @@
--- `same::same_write` meets its contract: it is the call of crate words. Assumes nothing.
+-- It is the call of crate c_words on the same words and the same space.
 use borrow.Author.Needs.{needs}
 use Rattle.same.proofs.same_write.Statement.{statement}
 use Rattle.same.proofs.same_write.Tie as tie

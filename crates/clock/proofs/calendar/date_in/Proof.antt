@@ -1,4 +1,4 @@
--- `clock::calendar::date_in` meets its contract. Assumes nothing.
+-- Month and day are the two parts of the calendar's entry of the day.
 use mathlib.Core.Path.{ap, _∙_}
 use borrow.Author.Needs.{needs}
 use Rattle.clock.specs.Calendar.{calendar, split, dateOf}

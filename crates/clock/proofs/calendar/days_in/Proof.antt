@@ -1,4 +1,4 @@
--- `clock::calendar::days_in` meets its contract. Assumes nothing.
+-- Whether the year is a leap year decides.
 use mathlib.Core.Path.{_≡_, sym, _∙_}
 use mathlib.Core.Bool.{true, false}
 use borrow.Author.Needs.{needs}

@@ -1,4 +1,4 @@
--- `clock::calendar::entry` meets its contract: the table is its rule at each of 366 entries, which antt computes. Assumes nothing.
+-- The table is its rule at each of 366 entries, which antt computes.
 use borrow.Author.Needs.{needs}
 use Rattle.laws.proofs.Tables.{tabled}
 use Rattle.clock.specs.Calendar.{calendar, dated}

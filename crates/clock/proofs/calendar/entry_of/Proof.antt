@@ -1,4 +1,4 @@
--- `clock::calendar::entry_of` meets its contract. Assumes nothing.
+-- In a leap year and before day 60 the entry is one below the day, else the day itself; the year's days bound it.
 use mathlib.Core.Path.{sym, _∙_}
 use borrow.Author.Needs.{needs}
 use native.Mathlib.Omega.{arith}

@@ -1,4 +1,4 @@
--- `clock::calendar::has_day` meets its contract. Assumes nothing.
+-- Day 0 is below the range; for any other the comparison with the days of the year is the answer.
 use mathlib.Core.Path.{_≡_}
 use borrow.Author.Needs.{needs}
 use native.Mathlib.Omega.{arith}

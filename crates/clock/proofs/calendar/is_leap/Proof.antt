@@ -1,4 +1,4 @@
--- `clock::calendar::is_leap` meets its contract. Assumes nothing.
+-- The rest by 4 is the definition.
 use mathlib.Core.Path.{refl}
 use Rattle.clock.proofs.calendar.is_leap.Statement.{statement}
 use Rattle.clock.proofs.calendar.is_leap.Tie as tie
