@@ -1,77 +1,15 @@
-// A run of edits on one book. After each: its number, 0 where it was done, whether the book is good, and the sum of all its words.
+// A run of edits on one book: each line of the input is one. Prints the line and the number of the answer, 0 where the edit was done;
+// then whether the book is good, and the sum of all its words.
+//
+// add and remove: place, client, wish. poke: a word's index, and what to put there. short: an addition to the book without its last
+// word. load: the words of ITEMS from one index up to another. A line with one number is about all of 4,096 subscriptions: filled and
+// emptied one by one, with how many were done, or loaded, with the last one's wish.
 ghost use mathlib.Core.Path.{_≡_};
 ghost use Prim.Native.Nat.{_<_, _≤_};
 ghost use lib.ListN.{length};
 use book_edits::Edited;
+use codec::Number;
 use libc::STDOUT_FILENO;
-
-// What a row of the table says: what to do, and its numbers.
-// 0 add (place, client, wish), 1 remove (place, client), 2 poke (word, value), 3 add to the book without its last word,
-// 4 load (the words from one index of ITEMS up to another).
-const STEPS: [[u32; 4]; 62] = [
-    [0, 39051, 7, 1],
-    [0, 39051, 7, 1],
-    [0, 39051, 7, 63],
-    [0, 439069, 7, 63],
-    [0, 39069, 7, 3],
-    [0, 39173, 12, 63],
-    [0, 39051, 0, 1],
-    [0, 39051, 10000, 1],
-    [0, 39051, 9999, 1],
-    [0, 100, 7, 1],
-    [0, 1000000, 7, 1],
-    [0, 999999, 7, 1],
-    [0, 39051, 8, 0],
-    [0, 39051, 8, 64],
-    [0, 1000, 1, 63],
-    [0, 1000000, 0, 0],
-    [0, 100, 5, 0],
-    [0, 39051, 7, 0],
-    [1, 39051, 8, 0],
-    [1, 39051, 0, 0],
-    [1, 100, 7, 0],
-    [1, 39069, 7, 0],
-    [1, 39069, 7, 0],
-    [0, 39069, 7, 5],
-    [1, 1000000, 10000, 0],
-    [3, 39052, 7, 1],
-    [2, 50, 99, 0],
-    [0, 39052, 7, 1],
-    [1, 39051, 7, 0],
-    [4, 0, 14, 0],
-    [2, 50, 6, 0],
-    [2, 100, 4097, 0],
-    [0, 39052, 7, 1],
-    [2, 100, 7, 0],
-    [2, 106, 449, 0],
-    [0, 39052, 7, 1],
-    [2, 106, 639937, 0],
-    [2, 8292, 1, 0],
-    [0, 39052, 7, 1],
-    [2, 8292, 0, 0],
-    [2, 102, 64, 0],
-    [0, 39052, 7, 1],
-    [2, 102, 127, 0],
-    [2, 102, 63, 0],
-    [1, 39052, 7, 0],
-    [2, 102, 127, 0],
-    [4, 14, 23, 0],
-    [4, 23, 29, 0],
-    [4, 0, 14, 0],
-    [1, 39173, 12, 0],
-    [4, 0, 0, 0],
-    [0, 1000, 1, 63],
-    [0, 39051, 7, 64],
-    [0, 39051, 7, 1],
-    [1, 48026, 2001, 0],
-    [0, 39051, 7, 1],
-    [0, 39052, 7, 1],
-    [4, 23, 29, 0],
-    [1, 39051, 7, 0],
-    [1, 39051, 7, 0],
-    [0, 48026, 2001, 48],
-    [0, 1000, 9999, 1],
-];
 
 // Four items with two words left over; three with a wish 0 in the second; a doubled one.
 const ITEMS: [u32; 29] = [
@@ -106,11 +44,20 @@ const ITEMS: [u32; 29] = [
     2,
 ];
 
-// The number of an answer.
 fn number_of(answer: Edited) -> u32 {
     match answer {
         Edited::Done => 0,
         Edited::Refused(n) => n,
+    }
+}
+
+// 1 where the edit was done.
+fn one_done(answer: Edited) -> u32
+    ensures { λ r. ⌜ r ≤ 1 ⌝ }
+{
+    match answer {
+        Edited::Done => 1,
+        Edited::Refused(_) => 0,
     }
 }
 
@@ -142,10 +89,9 @@ fn add_short(book: &mut [u32], place: u32, client: u32, wish: u32) -> u32 {
     number_of(book_edits::add(&mut book[..last], place, client, wish))
 }
 
-// A load of some words of ITEMS.
-fn load_items(book: &mut [u32], from: usize, to: usize) -> u32 {
-    let items = ITEMS;
-    if 29 < to {
+// A load of some words of a list.
+fn load_some(book: &mut [u32], items: &[u32], from: usize, to: usize) -> u32 {
+    if items.len() < to {
         return 0;
     }
     if to < from {
@@ -154,72 +100,9 @@ fn load_items(book: &mut [u32], from: usize, to: usize) -> u32 {
     number_of(book_loads::load(book, &items[from..to]))
 }
 
-// Row i of the table.
-fn row(i: usize) -> [u32; 4]
-    requires { ⌜ i < 62 ⌝ }
-{
-    STEPS[i]
-}
-
-// Does what a row says, and answers its number.
-fn done(book: &mut [u32], kind: u32, a: u32, b: u32, c: u32) -> u32 {
-    match kind {
-        0 => number_of(book_edits::add(book, a, b, c)),
-        1 => number_of(book_edits::remove(book, a, b)),
-        2 => poke(book, a as usize, b),
-        3 => add_short(book, a, b, c),
-        _ => load_items(book, a as usize, b as usize),
-    }
-}
-
-// Prints what a row asks for.
-fn print_kind(kind: u32) -> bool {
-    match kind {
-        0 => io::write_all(STDOUT_FILENO, b"add "),
-        1 => io::write_all(STDOUT_FILENO, b"remove "),
-        2 => io::write_all(STDOUT_FILENO, b"poke "),
-        3 => io::write_all(STDOUT_FILENO, b"short "),
-        _ => io::write_all(STDOUT_FILENO, b"load "),
-    }
-}
-
-// Prints a number and what follows it.
-fn print_then(n: u32, mark: &[u8]) {
-    io::print_decimal(STDOUT_FILENO, n as u64);
-    io::write_all(STDOUT_FILENO, mark);
-}
-
-// Prints what is to be seen of a book.
-fn print_book(book: &[u32]) {
-    if book_check::is_good(book) {
-        io::write_all(STDOUT_FILENO, b", good, sum ");
-    } else {
-        io::write_all(STDOUT_FILENO, b", bad, sum ");
-    }
-    io::print_decimal(STDOUT_FILENO, sum_of(book));
-    io::write_all(STDOUT_FILENO, b"\n");
-}
-
-// Does and prints one row.
-fn step(book: &mut [u32], kind: u32, a: u32, b: u32, c: u32) {
-    print_kind(kind);
-    print_then(a, b" ");
-    print_then(b, b" ");
-    print_then(c, b" = ");
-    print_then(done(book, kind, a, b, c), b"");
-    print_book(book);
-}
-
-// Does the rows from one index up to another.
-fn run(book: &mut [u32], from: usize, to: usize)
-    requires { ⌜ to ≤ 62 ⌝ }
-{
-    let mut i = from;
-    while i < to {
-        let r = row(i);
-        step(book, r[0], r[1], r[2], r[3]);
-        i += 1;
-    }
+fn load_items(book: &mut [u32], from: usize, to: usize) -> u32 {
+    let items = ITEMS;
+    load_some(book, &items, from, to)
 }
 
 // The subscriptions that fill a book: places and clients by number, rising with i.
@@ -235,9 +118,7 @@ fn fill(book: &mut [u32]) -> u32 {
     let mut i: u32 = 4096;
     while 0 < i {
         i -= 1;
-        if number_of(book_edits::add(book, place_by(i), 1 + i % 9999, 1 + i % 63)) == 0 {
-            count += 1;
-        }
+        count += one_done(book_edits::add(book, place_by(i), 1 + i % 9999, 1 + i % 63));
     }
     count
 }
@@ -247,9 +128,7 @@ fn empty(book: &mut [u32]) -> u32 {
     let mut count: u32 = 0;
     let mut i: u32 = 0;
     while i < 4096 {
-        if number_of(book_edits::remove(book, place_by(i), 1 + i % 9999)) == 0 {
-            count += 1;
-        }
+        count += one_done(book_edits::remove(book, place_by(i), 1 + i % 9999));
         i += 1;
     }
     count
@@ -278,23 +157,112 @@ fn load_all(book: &mut [u32], wish: u32) -> u32 {
     number_of(book_loads::load(book, &items))
 }
 
-// Does and prints such a load.
-fn print_load(book: &mut [u32], wish: u32) {
-    io::write_all(STDOUT_FILENO, b"loaded ");
-    print_then(load_all(book, wish), b"");
+fn edited(book: &mut [u32], kind: u8, a: u32, b: u32, c: u32) -> u32 {
+    match kind {
+        b'a' => number_of(book_edits::add(book, a, b, c)),
+        b'r' => number_of(book_edits::remove(book, a, b)),
+        b'p' => poke(book, a as usize, b),
+        b's' => add_short(book, a, b, c),
+        _ => load_items(book, a as usize, b as usize),
+    }
+}
+
+fn edited_all(book: &mut [u32], kind: u8, wish: u32) -> u32 {
+    match kind {
+        b'f' => fill(book),
+        b'e' => empty(book),
+        _ => load_all(book, wish),
+    }
+}
+
+fn say(text: &[u8]) {
+    io::write_all(STDOUT_FILENO, text);
+}
+
+fn number(n: u64) {
+    io::print_decimal(STDOUT_FILENO, n);
+}
+
+// Prints what is to be seen of a book.
+fn print_book(book: &[u32]) {
+    if book_check::is_good(book) {
+        say(b", good, sum ");
+    } else {
+        say(b", bad, sum ");
+    }
+    number(sum_of(book));
+    say(b"\n");
+}
+
+// Where the next word of a line starts, or the line's length.
+fn past(line: &[u8], at: usize) -> usize
+    requires { ⌜ at ≤ length (now line) ⌝ }
+    ensures { λ r. ⌜ r ≤ length (now (line .entry)) ⌝ }
+{
+    let end = bytes::scan::find(line, at, line.len(), b' ');
+    if end < line.len() { end + 1 } else { end }
+}
+
+// The number at an index of a line.
+fn word(line: &[u8], at: usize) -> u32
+    requires { ⌜ at ≤ length (now line) ⌝ }
+{
+    let end = bytes::scan::find(line, at, line.len(), b' ');
+    match codec::digits_at(line, at, end - at) {
+        Number::Is(n) => n,
+        Number::NoNumber => 0,
+    }
+}
+
+fn one_edit(book: &mut [u32], line: &[u8], kind: u8, a: usize, b: usize, c: usize)
+    requires { ⌜ (a ≤ length (now line)) × (b ≤ length (now line)) × (c ≤ length (now line)) ⌝ }
+{
+    say(line);
+    say(b" = ");
+    number(edited(book, kind, word(line, a), word(line, b), word(line, c)) as u64);
+}
+
+fn all_edits(book: &mut [u32], line: &[u8], kind: u8, a: usize)
+    requires { ⌜ a ≤ length (now line) ⌝ }
+{
+    say(&line[..a]);
+    number(edited_all(book, kind, word(line, a)) as u64);
+}
+
+// One edit, or all 4,096, by how many numbers the line has.
+fn edit_by(book: &mut [u32], line: &[u8], a: usize, b: usize, c: usize)
+    requires { ⌜ (a ≤ length (now line)) × (b ≤ length (now line)) × (c ≤ length (now line)) ⌝ }
+{
+    if line.len() == 0 {
+        return;
+    }
+    if c < line.len() {
+        one_edit(book, line, line[0], a, b, c);
+        return;
+    }
+    all_edits(book, line, line[0], a);
+}
+
+fn case(book: &mut [u32], line: &[u8]) {
+    let a = past(line, 0);
+    let b = past(line, a);
+    let c = past(line, b);
+    edit_by(book, line, a, b, c);
     print_book(book);
+}
+
+fn cases(book: &mut [u32], input: &[u8]) {
+    let mut at: usize = 0;
+    while at < input.len() {
+        let e = bytes::scan::find(input, at, input.len(), b'\n');
+        case(book, &input[at..e]);
+        at = e + 1;
+    }
 }
 
 fn main() {
     let mut book = [0u32; 8293];
-    run(&mut book, 0, 51);
-    io::write_all(STDOUT_FILENO, b"filled ");
-    print_then(fill(&mut book), b"");
-    print_book(&book);
-    run(&mut book, 51, 62);
-    io::write_all(STDOUT_FILENO, b"emptied ");
-    print_then(empty(&mut book), b"");
-    print_book(&book);
-    print_load(&mut book, 64);
-    print_load(&mut book, 43);
+    let mut input = [0u8; 2048];
+    let n = io::read_full(0, &mut input);
+    cases(&mut book, &input[..n]);
 }

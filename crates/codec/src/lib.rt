@@ -70,7 +70,7 @@ pub fn digits_at(text: &[u8], at: usize, width: usize) -> Number
     Number::Is(n)
 }
 
-// One byte at index at. Answers whether there is room for it; where there is none, nothing is written.
+// Puts one byte at index at and says yes, or says no where there is no room for it and writes nothing.
 pub fn put_byte(out: &mut [u8], at: usize, b: u8) -> bool
     ensures { λ r. ⌜ PutPromise (now (out .entry)) at (b ∷ []) r (now (out .exit)) ⌝ }
 {
@@ -81,7 +81,7 @@ pub fn put_byte(out: &mut [u8], at: usize, b: u8) -> bool
     true
 }
 
-// Some bytes at index at; else as put_byte.
+// Puts some bytes at index at and says yes, or says no where there is no room for all of them and writes nothing.
 pub fn put_bytes(out: &mut [u8], at: usize, src: &[u8]) -> bool
     ensures { λ r. ⌜ PutPromise (now (out .entry)) at (now (src .entry)) r (now (out .exit)) ⌝ }
 {
@@ -99,7 +99,8 @@ pub fn put_bytes(out: &mut [u8], at: usize, src: &[u8]) -> bool
     true
 }
 
-// The last width digits of a count at index at, from the right; else as put_byte.
+// Puts the last width digits of a count at index at and says yes, or says no where there is no room for them and writes nothing. It goes from
+// the right.
 pub fn put_count(out: &mut [u8], at: usize, n: usize, width: usize) -> bool
     ensures { λ r. ⌜ PutPromise (now (out .entry)) at (dig width n) r (now (out .exit)) ⌝ }
 {
@@ -119,7 +120,7 @@ pub fn put_count(out: &mut [u8], at: usize, n: usize, width: usize) -> bool
     true
 }
 
-// The last width digits of n, which is such a number as digits_at gives.
+// The same of a number of 32 bits, such as digits_at gives.
 pub fn put_digits(out: &mut [u8], at: usize, n: u32, width: usize) -> bool
     ensures { λ r. ⌜ PutPromise (now (out .entry)) at (dig width n) r (now (out .exit)) ⌝ }
 {

@@ -48,7 +48,7 @@ fn put_tag(out: &mut [u8], at: usize, word: &[u8], n: usize, w: usize)
     codec::put_count(out, at + word.len(), n, w);
 }
 
-// A line: a word, and a number of w digits.
+// Puts a line of a word and a number of w digits at index at and says yes, or says no where there is no room and writes nothing.
 pub fn put_number(out: &mut [u8], at: usize, word: &[u8], n: usize, w: usize) -> bool
     ensures { λ r. ⌜ PutPromise (now (out .entry)) at (numberLine (now (word .entry)) w n) r (now (out .exit)) ⌝ }
 {
@@ -60,7 +60,7 @@ pub fn put_number(out: &mut [u8], at: usize, word: &[u8], n: usize, w: usize) ->
     true
 }
 
-// A line: a word, and some bytes.
+// Puts a line of a word and some bytes: else as put_number.
 pub fn put_text(out: &mut [u8], at: usize, word: &[u8], text: &[u8]) -> bool
     ensures { λ r. ⌜ PutPromise (now (out .entry)) at (textLine (now (word .entry)) (now (text .entry))) r (now (out .exit)) ⌝ }
 {
@@ -85,7 +85,7 @@ fn put_when(out: &mut [u8], at: usize, s: Stamp)
     put_number(out, at + 8, b":", s.minute as usize, 2);
 }
 
-// A line: a word, and `MM-DD HH:MM`.
+// Puts a line of a word and `MM-DD HH:MM`: else as put_number.
 pub fn put_stamp(out: &mut [u8], at: usize, word: &[u8], s: Stamp) -> bool
     ensures { λ r. ⌜ PutPromise (now (out .entry)) at (stampLine (now (word .entry)) s) r (now (out .exit)) ⌝ }
 {
@@ -106,7 +106,7 @@ fn put_hit(out: &mut [u8], at: usize, place: u32, wish: u32)
     put_number(out, at + 10, b" ", wish as usize, 2);
 }
 
-// The lines of all hits, which are pairs of place and wish.
+// Puts the lines of all hits, which are pairs of place and wish: else as put_number.
 pub fn put_hits(out: &mut [u8], at: usize, hits: &[u32]) -> bool
     ensures { λ r. ⌜ PutPromise (now (out .entry)) at (hitsText (now (hits .entry))) r (now (out .exit)) ⌝ }
 {

@@ -1,4 +1,4 @@
--- `book_cases::add_short` meets its contract. Assumes nothing.
+-- The part lent is all words but the last.
 use Prim.Native.Nat.{_-_}
 use mathlib.Core.Path.{sym}
 use native.Mathlib.Omega.{arith}

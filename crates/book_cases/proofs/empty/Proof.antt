@@ -1,10 +1,9 @@
--- `book_cases::empty` meets its contract. Assumes nothing.
-use Prim.Native.Nat.{_-_, _≤_}
-use mathlib.Core.Path.{_≡_, _∙_}
-use mathlib.Core.Logic.{⊎-elim}
+-- At most one is counted at each turn, and the book keeps its length.
+use Prim.Native.Nat.{_≤_, _-_}
 use native.Mathlib.Omega.{arith}
-use lib.ListN.{length}
 use borrow.Author.Needs.{needs}
+use mathlib.Core.Path.{_≡_}
+use lib.ListN.{length}
 use Rattle.book_cases.proofs.empty.Statement.{statement}
 use Rattle.book_cases.proofs.empty.Tie as tie
 
@@ -26,8 +25,8 @@ add-remove c = search needs
 remove-requires : tie.Need-remove-requires Inv-loop μ-loop
 remove-requires c κs = search needs
 
-number-of-requires : tie.Need-number-of-requires Inv-loop μ-loop
-number-of-requires c κs = search needs
+one-done-requires : tie.Need-one-done-requires Inv-loop μ-loop
+one-done-requires c κs = search needs
 
 add-count : tie.Need-add-count Inv-loop μ-loop
 add-count c = search needs
@@ -39,9 +38,7 @@ loop-less : tie.Need-loop-less Inv-loop μ-loop
 loop-less c = search needs
 
 loop-again : tie.Need-loop-again Inv-loop μ-loop
-loop-again c =
-    let l = c .before .before .before .before .before .before .before .before .loop in
-    (omega arith, ⊎-elim (λ a. omega (arith, l .inv .1)) (λ a. omega (arith, l .inv .1)) (c .if1 .came), c .before .before .before .before .remove .kept .0 ∙ l .inv .2)
+loop-again c = (search needs, search needs, omega arith)
 
 same-length : tie.Need-same-length Inv-loop μ-loop
 same-length c = search needs
@@ -59,7 +56,7 @@ empty-spec =
     place-by-requires
     add-remove
     remove-requires
-    number-of-requires
+    one-done-requires
     add-count
     add-i
     loop-less

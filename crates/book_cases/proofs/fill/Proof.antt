@@ -1,9 +1,9 @@
--- `book_cases::fill` meets its contract. Assumes nothing.
-use Prim.Native.Nat.{_+_, _≤_}
-use mathlib.Core.Path.{_≡_, _∙_}
+-- No more are counted than were tried, and the book keeps its length.
+use Prim.Native.Nat.{_≤_, _+_}
 use native.Mathlib.Omega.{arith}
-use lib.ListN.{length}
 use borrow.Author.Needs.{needs}
+use mathlib.Core.Path.{_≡_}
+use lib.ListN.{length}
 use Rattle.book_cases.proofs.fill.Statement.{statement}
 use Rattle.book_cases.proofs.fill.Tie as tie
 
@@ -31,8 +31,8 @@ add-add-2 c = search needs
 add-requires : tie.Need-add-requires Inv-loop μ-loop
 add-requires c κs = search needs
 
-number-of-requires : tie.Need-number-of-requires Inv-loop μ-loop
-number-of-requires c κs = search needs
+one-done-requires : tie.Need-one-done-requires Inv-loop μ-loop
+one-done-requires c κs = search needs
 
 add-count : tie.Need-add-count Inv-loop μ-loop
 add-count c = search needs
@@ -41,17 +41,7 @@ loop-less : tie.Need-loop-less Inv-loop μ-loop
 loop-less c = search needs
 
 loop-again : tie.Need-loop-again Inv-loop μ-loop
-loop-again c =
-    let l = c .before .before .before .before .before .before .before .before .loop in
-    (omega (arith, l .inv .0), c .before .before .before .before .add .kept .0 ∙ l .inv .1)
-
-loop-less-2 : tie.Need-loop-less-2 Inv-loop μ-loop
-loop-less-2 c = search needs
-
-loop-again-2 : tie.Need-loop-again-2 Inv-loop μ-loop
-loop-again-2 c =
-    let l = c .before .before .before .before .before .before .before .before .loop in
-    (omega (arith, l .inv .0), c .before .before .before .before .add .kept .0 ∙ l .inv .1)
+loop-again c = (search needs, omega arith)
 
 same-length : tie.Need-same-length Inv-loop μ-loop
 same-length c = search needs
@@ -71,11 +61,9 @@ fill-spec =
     add-add
     add-add-2
     add-requires
-    number-of-requires
+    one-done-requires
     add-count
     loop-less
     loop-again
-    loop-less-2
-    loop-again-2
     same-length
     returns)

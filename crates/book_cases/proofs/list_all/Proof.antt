@@ -1,4 +1,4 @@
--- `book_cases::list_all` meets its contract. Assumes nothing.
+-- The turn of i writes the three words from 3 × i on, which lie within 12,288.
 use Prim.Native.Nat.{_-_, _≤_}
 use mathlib.Core.Path.{_≡_}
 use native.Mathlib.Omega.{arith}

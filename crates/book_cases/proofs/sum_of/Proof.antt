@@ -1,4 +1,4 @@
--- `book_cases::sum_of` meets its contract. Assumes nothing.
+-- The index never passes the end of the book.
 use Prim.Native.Nat.{_-_, _≤_}
 use native.Mathlib.Omega.{arith}
 use lib.ListN.{length}

@@ -6,16 +6,16 @@ use borrow.Author.Needs.{needs}
 use Rattle.input_lines.proofs.sub_of.Statement.{statement}
 use Rattle.input_lines.proofs.sub_of.Tie as tie
 
--- the test of the length, from behind the first number
+-- the test of the length, from behind the place
 abbrev tested : tie.After-known-told → tie.Else1
 tested c = c .before .before .before .before .before
 
--- the first number, from behind the second; the second, from behind the third
-abbrev first : tie.After-known-told2 → tie.After-known-told
-first c = c .before .before .before .before .before
+-- the place, from behind the client; the client, from behind the wish
+abbrev at-place : tie.After-known-told2 → tie.After-known-told
+at-place c = c .before .before .before .before .before
 
-abbrev second : tie.After-known-told3 → tie.After-known-told2
-second c = c .before .before .before .before .before
+abbrev at-client : tie.After-known-told3 → tie.After-known-told2
+at-client c = c .before .before .before .before .before
 
 returns : tie.Need-returns
 returns c = sub-length _ _ (c .if1 .taken)
@@ -69,12 +69,12 @@ enum-told-3 c = search needs
 returns-4 : tie.Need-returns-4
 returns-4 c =
     let u = c .before .before in
-    sub-3 _ _ (tested (first (u .before .before)) .if1 .left) (sym (u .tagged3 .ensures) ∙ c .enum-told3 .given .1)
+    sub-3 _ _ (tested (at-place (u .before .before)) .if1 .left) (sym (u .tagged3 .ensures) ∙ c .enum-told3 .given .1)
 
 returns-5 : tie.Need-returns-5
 returns-5 c =
-    let d = second c in
-    let y = first d in
+    let d = at-client c in
+    let y = at-place d in
     sub-4 _ _ (tested y .if1 .left) _ _ _
     (sym (y .before .before .before .tagged .ensures) ∙ y .before .place .given .1)
     (sym (d .before .before .before .tagged2 .ensures) ∙ d .before .client .given .1)
