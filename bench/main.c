@@ -2,6 +2,7 @@
  *
  * Usage: main [SEED [quick]]. Quick takes a tenth of the inputs and leaves the timing out.
  * Ends with status 1 if the two ever differ.
+ * Compiled with BEFORE it also times the library of an earlier commit, whose calls are named before_*.
  *
  * Every space lent to a call ends at a page that may not be touched, so a step behind it ends the run. The bytes before
  * it are known and compared, and inputs are compared with what they were.
@@ -35,11 +36,37 @@ struct api {
     uint64_t (*page)(const uint8_t *, size_t, uint8_t *, size_t);
 };
 
-static const struct api library = {same_strip, same_vote, same_read, same_write,  same_listed, same_class, same_matches,
-                                   same_good,  same_add,  same_remove, same_load, same_report, same_page};
-static const struct api plain = {plain_strip, plain_vote, plain_read, plain_write,  plain_listed, plain_class,
-                                 plain_matches, plain_good, plain_add, plain_remove, plain_load, plain_report,
-                                 plain_page};
+#define CALLS(who)                                                                       \
+    {who##_strip,   who##_vote, who##_read, who##_write,  who##_listed, who##_class,     \
+     who##_matches, who##_good, who##_add,  who##_remove, who##_load,   who##_report, who##_page}
+
+static const struct api library = CALLS(same), plain = CALLS(plain);
+#ifdef BEFORE
+extern __typeof__(same_strip) before_strip;
+extern __typeof__(same_vote) before_vote;
+extern __typeof__(same_read) before_read;
+extern __typeof__(same_write) before_write;
+extern __typeof__(same_listed) before_listed;
+extern __typeof__(same_class) before_class;
+extern __typeof__(same_matches) before_matches;
+extern __typeof__(same_good) before_good;
+extern __typeof__(same_add) before_add;
+extern __typeof__(same_remove) before_remove;
+extern __typeof__(same_load) before_load;
+extern __typeof__(same_report) before_report;
+extern __typeof__(same_page) before_page;
+static const struct api before = CALLS(before);
+#endif
+
+/* What is timed. A ratio is the library's time to that of plain C, and with BEFORE also to that of the earlier library. */
+static const struct api *const sides[] = {
+    &plain,
+    &library,
+#ifdef BEFORE
+    &before,
+#endif
+};
+enum { SIDES = sizeof sides / sizeof *sides };
 
 enum { BOOK = SAME_BOOK_WORDS, RECORDS = 4096, WORD = sizeof(uint32_t) };
 
@@ -975,7 +1002,7 @@ struct row {
     void (*undo)(void);
     void (*set)(uint32_t);
     uint32_t arg;
-    double ratio, ns[2];
+    double ratio, ns[SIDES];
 };
 
 static struct row rows[] = {
@@ -1045,7 +1072,6 @@ static double one_round(const struct row *row, const struct api *api, uint32_t g
 
 static void time_row(struct row *row, double cost)
 {
-    const struct api *sides[2] = {&plain, &library};
     memset(&bench, 0, sizeof bench);
     chance_state = 7;
     row->set(row->arg);
@@ -1054,14 +1080,16 @@ static void time_row(struct row *row, double cost)
     /* Rows that go through the asked ones take all of them in each round, so that both sides get the same. */
     if (row->undo != nothing) goes = VARIETY;
     for (int r = 0; r < ROUNDS; r++) {
-        for (int turn = 0; turn < 2; turn++) {
-            int side = (turn + r) % 2;
+        for (int turn = 0; turn < SIDES; turn++) {
+            int side = (turn + r) % SIDES;
             double took = one_round(row, sides[side], goes, cost);
             if (r == 0 || took < row->ns[side]) row->ns[side] = took;
         }
     }
     row->ratio = row->ns[1] / row->ns[0];
-    printf("%-36s %12.1f %12.1f %8.2f\n", row->name, row->ns[0], row->ns[1], row->ratio);
+    printf("%-36s %12.1f %12.1f %8.2f", row->name, row->ns[0], row->ns[1], row->ratio);
+    if (SIDES > 2) printf(" %12.1f %8.2f", row->ns[SIDES - 1], row->ns[1] / row->ns[SIDES - 1]);
+    printf("\n");
 }
 
 static const struct row *find_row(const char *name)
@@ -1082,8 +1110,8 @@ static void time_all(void)
     double cost = clock_cost(), worst = 0;
     size_t above = 0, count = sizeof rows / sizeof *rows;
     printf("\nBuffers are cleared before each row, then filled with the same inputs for both sides.\n"
-           "Best of %d rounds, the sides in turn. Nanoseconds for one call.\n\n%-36s %12s %12s %8s\n",
-           ROUNDS, "call", "plain C", "library", "ratio");
+           "Best of %d rounds, the sides in turn. Nanoseconds for one call.\n\n%-36s %12s %12s %8s%s\n",
+           ROUNDS, "call", "plain C", "library", "ratio", SIDES > 2 ? "       before    ratio" : "");
     for (size_t i = 0; i < count; i++) {
         time_row(&rows[i], cost);
         above += rows[i].ratio > 1.2;

@@ -1,5 +1,6 @@
 pub mod Stripped
 pub mod Bytes
+pub mod Whole
 pub mod Lengths
 pub mod Heard
 pub mod Arranged

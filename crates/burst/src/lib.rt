@@ -76,20 +76,11 @@ fn too_long(a: &[u8], b: &[u8], c: &[u8]) -> bool
     268 < c.len()
 }
 
-// Each bit of the answer is what at least two of the three have.
+// Each bit of the answer is what at least two of the three have: some pair of them has it. All eight bits are settled at once.
 fn majority(x: u8, y: u8, z: u8) -> u8
     ensures { λ r. ⌜ r ≡ votedByte x y z ⌝ }
 {
-    let mut r: u16 = 0;
-    let mut w: u16 = 1;
-    let mut k: usize = 0;
-    while k < 8 {
-        let s = (x as u16) / w % 2 + (y as u16) / w % 2 + (z as u16) / w % 2;
-        r = r + s / 2 * w;
-        w = w * 2;
-        k += 1;
-    }
-    r as u8
+    (x & y) | (x & z) | (y & z)
 }
 
 // The lowest position from `from` on, below n, at which the two differ, or n.

@@ -15,8 +15,9 @@ use Rattle.burst.proofs.Consequence.{consequence}
 use Rattle.burst.proofs.Heard.{clash-lowest, clash-there}
 use Rattle.burst.proofs.Lengths.{each-short, middle-of, none-long}
 use Rattle.burst.proofs.NoChoice.Granted.{fits-each}
-use Rattle.burst.proofs.NoChoice.{said-one-to-one, strip-no-choice, strip-only-preamble, vote-granted, vote-writes-the-voted-length}
+use Rattle.burst.proofs.NoChoice.{said-one-to-one, strip-no-choice, strip-only-preamble, vote-granted, vote-no-choice, vote-writes-the-voted-length}
 use Rattle.burst.proofs.Stripped.{all-lead, only-preamble, stripped-bytes, stripped-short}
+use Rattle.burst.proofs.Whole.{whole-bit, whole-byte}
 use Rattle.c_answers.proofs.Keeps.{keeps}
 use Rattle.c_answers.proofs.Packs.{halves, told-apart}
 use Rattle.clock.proofs.Cases.{leap-60, lifetime-366, plain-366, plain-60, times-366}
