@@ -2,12 +2,14 @@
 #ifndef PLAIN_H
 #define PLAIN_H
 
+#include "same.h" /* for struct same_voted */
+
 #include <stddef.h>
 #include <stdint.h>
 
 uint64_t plain_strip(const uint8_t *burst, size_t n);
-uint64_t plain_vote(const uint8_t *a, size_t na, const uint8_t *b, size_t nb, const uint8_t *c, size_t nc,
-                    uint8_t *out, size_t room);
+struct same_voted plain_vote(const uint8_t *a, size_t na, const uint8_t *b, size_t nb, const uint8_t *c, size_t nc,
+                             uint8_t *out, size_t room);
 uint64_t plain_read(const uint8_t *text, size_t n, uint32_t *fields, size_t words);
 uint64_t plain_write(const uint32_t *fields, size_t words, uint8_t *out, size_t room);
 uint32_t plain_listed(uint8_t first, uint8_t second, uint8_t third);

@@ -71,8 +71,8 @@ static void said(const char *call, uint64_t answer, uint32_t number)
 static void call_strip(void) { said("strip", same_strip(bursts[0], 72), 0); }
 static void call_vote(void)
 {
-    said("vote", same_vote(bursts[0], 72, bursts[1], 72, bursts[2], 72, text, sizeof text), 0);
-    said("vote", same_vote(bursts[0], 72, bursts[1], 71, bursts[2], 16, text, sizeof text), 3);
+    said("vote", same_vote(bursts[0], 72, bursts[1], 72, bursts[2], 72, text, sizeof text).answer, 0);
+    said("vote", same_vote(bursts[0], 72, bursts[1], 71, bursts[2], 16, text, sizeof text).answer, 3);
 }
 static void call_read(void)
 {

@@ -16,6 +16,7 @@
  *   An answer of 64 bits has the number in its low half and a length, count or index in its high half.
  *   Number 0 means granted. Any other number is the refusal of that number in the list below.
  *   The high half is 0 unless the call's comment names something for it.
+ *   same_vote answers a struct with that answer and three numbers more.
  *
  * What a call does to lent space
  *   A granted call writes the bytes or words that its comment names, and no others: no NUL stands behind a text.
@@ -34,8 +35,10 @@
  *   at its guard page. bench/stack measures all of them.
  *
  * Bursts
- *   A header text is sent three times. A burst is one of them as received: some bytes 0xAB, 16 if all went well, and
- *   then the text. The stripped burst is what follows the leading bytes 0xAB.
+ *   A header text is sent three times. A burst is one of them as received: some preamble bytes, 16 if all went well, and
+ *   then the text. A preamble byte is sent as 0xAB and may arrive with one wrong bit: a byte counts as preamble if it
+ *   differs from 0xAB in at most one bit. The stripped burst is what follows the leading preamble bytes, of which at most
+ *   16 are dropped: twenty leave four. A first byte + (0x2B) is dropped as well; no header text begins with it.
  *
  * Places
  *   A place is a number of six digits, PSSCCC: P a part of the county (0: all of it), SS the state, CCC the county
@@ -105,6 +108,10 @@
 extern "C" {
 #endif
 
+/* Raised by each change that adds a call or changes what one takes or returns. 1: the first. 2: same_vote returns a
+ * struct. */
+#define SAME_VERSION 2
+
 /* Sizes. With this much room lent, no call refuses with 13. */
 #define SAME_TEXT_BYTES 252    /* the longest header text */
 #define SAME_FIELD_WORDS 50    /* the fields of a header */
@@ -138,10 +145,16 @@ extern "C" {
 static inline uint32_t same_number(uint64_t answer) { return (uint32_t)answer; }
 static inline uint32_t same_size_or_index(uint64_t answer) { return (uint32_t)(answer >> 32); }
 
-/* Says how many bytes 0xAB lead the burst.
- * High half: that number. A run of more than 4,294,967,295 is said as 4,294,967,295.
- * Never refuses, writes nothing. */
+/* Says how many bytes the stripping drops: the stripped burst starts so many bytes on.
+ * High half: that number, 0 to 16. Never refuses, writes nothing. */
 uint64_t same_strip(const uint8_t *burst, size_t n);
+
+/* What same_vote returns: its answer; and for a station's log, granted or refused, how many bytes were dropped of each
+ * burst, 0 to 16. */
+struct same_voted {
+    uint64_t answer;
+    uint32_t first, second, third;
+};
 
 /* Strips three received bursts and votes them into one text. Its length is the middle one of the stripped lengths; each
  * bit is what at least two bursts have, and where only two reach, their bytes must be equal.
@@ -149,8 +162,8 @@ uint64_t same_strip(const uint8_t *burst, size_t n);
  * with the lowest index at which the two bytes differ, counted in the stripped bursts. SAME_TEXT_BYTES of room are
  * always enough.
  * Granted: out[0 .. length-1] is the text. High half: the length, 1 to 252. */
-uint64_t same_vote(const uint8_t *a, size_t na, const uint8_t *b, size_t nb, const uint8_t *c, size_t nc,
-                   uint8_t *out, size_t room);
+struct same_voted same_vote(const uint8_t *a, size_t na, const uint8_t *b, size_t nb, const uint8_t *c, size_t nc,
+                            uint8_t *out, size_t room);
 
 /* Reads a header text into its fields.
  * Numbers in order: 4 with index 252; 5 to 12 with the index of the field's first byte (8: of the first place that is

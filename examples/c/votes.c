@@ -6,13 +6,14 @@
 
 static const char sent[] = "ZCZC-WXR-TOR-039173-039051-139069+0030-1591829-KCLE/NWS-";
 
-/* A burst as received: 16 preamble bytes, then the text with one byte damaged. */
-static size_t receive(uint8_t *burst, size_t damaged)
+/* A burst as received: some preamble bytes, one of them with a wrong bit, then the text with one byte damaged. */
+static size_t receive(uint8_t *burst, size_t preamble, size_t damaged)
 {
-    memset(burst, 0xAB, 16);
-    memcpy(burst + 16, sent, sizeof sent - 1);
-    burst[16 + damaged] ^= 0x24;
-    return 16 + sizeof sent - 1;
+    memset(burst, 0xAB, preamble);
+    burst[preamble / 2] ^= 0x10;
+    memcpy(burst + preamble, sent, sizeof sent - 1);
+    burst[preamble + damaged] ^= 0x24;
+    return preamble + sizeof sent - 1;
 }
 
 /* Says which call was refused, and by which number. */
@@ -28,11 +29,12 @@ int main(void)
     static uint32_t hits[SAME_HIT_WORDS];
     uint8_t a[268], b[268], c[268], text[SAME_TEXT_BYTES];
     uint32_t fields[SAME_FIELD_WORDS], summary[SAME_SUMMARY_WORDS];
-    size_t na = receive(a, 9), nb = receive(b, 20), nc = receive(c, 40);
+    size_t na = receive(a, 16, 9), nb = receive(b, 16, 20), nc = receive(c, 11, 40);
 
-    uint64_t vote = same_vote(a, na, b, nb, c, nc, text, sizeof text);
-    if (refused("vote", vote)) return 1;
-    size_t n = same_size_or_index(vote);
+    struct same_voted vote = same_vote(a, na, b, nb, c, nc, text, sizeof text);
+    printf("dropped=%u %u %u\n", vote.first, vote.second, vote.third);
+    if (refused("vote", vote.answer)) return 1;
+    size_t n = same_size_or_index(vote.answer);
     printf("text=%.*s\n", (int)n, (const char *)text);
 
     if (refused("read", same_read(text, n, fields, SAME_FIELD_WORDS))) return 1;

@@ -16,19 +16,31 @@ class Refused(Exception):
     """A call said a number other than 0."""
 
 
-def declare(name, *kinds):
-    """A call of the library that gives the size of a granted answer, or raises."""
+class Voted(ctypes.Structure):
+    """What same_vote returns: its answer, and how many bytes were dropped of each burst."""
+
+    _fields_ = [("answer", ctypes.c_uint64), ("first", WORD), ("second", WORD), ("third", WORD)]
+
+
+def granted(name, answer):
+    """The size in a granted answer; a refusal is raised."""
+    number, size_or_index = answer & 0xFFFFFFFF, answer >> 32
+    if number:
+        raise Refused(f"{name}: refused {number} at {size_or_index}")
+    return size_or_index
+
+
+def declare(name, result, *kinds):
+    """A call of the library."""
     call = getattr(same, name)
-    call.argtypes, call.restype = kinds, ctypes.c_uint64
+    call.argtypes, call.restype = kinds, result
+    return call
 
-    def granted(*words):
-        answer = call(*words)
-        number, size_or_index = answer & 0xFFFFFFFF, answer >> 32
-        if number:
-            raise Refused(f"{name}: refused {number} at {size_or_index}")
-        return size_or_index
 
-    return granted
+def declare_granted(name, *kinds):
+    """A call of the library that gives the size of a granted answer, or raises."""
+    call = declare(name, ctypes.c_uint64, *kinds)
+    return lambda *words: granted(name, call(*words))
 
 
 def lent_bytes(content):
@@ -39,11 +51,12 @@ def lent_words(count):
     return (ctypes.c_uint32 * count)()
 
 
-def receive(damaged):
-    """A burst as received: 16 preamble bytes, then the text with one byte damaged."""
-    text = bytearray(SENT)
-    text[damaged] ^= 0x24
-    return lent_bytes(b"\xab" * 16 + text)
+def receive(preamble, damaged):
+    """A burst as received: some preamble bytes, one of them with a wrong bit, then the text with one byte damaged."""
+    burst = bytearray(b"\xab" * preamble + SENT)
+    burst[preamble // 2] ^= 0x10
+    burst[preamble + damaged] ^= 0x24
+    return lent_bytes(burst)
 
 
 if len(sys.argv) != 2:
@@ -52,13 +65,15 @@ try:
     same = ctypes.CDLL(sys.argv[1])
 except OSError as why:
     sys.exit(f"votes.py: {why}")
-vote = declare("same_vote", BYTES, SIZE, BYTES, SIZE, BYTES, SIZE, BYTES, SIZE)
-read = declare("same_read", BYTES, SIZE, WORDS, SIZE)
-add = declare("same_add", WORDS, SIZE, WORD, WORD, WORD)
-report = declare("same_report", WORDS, SIZE, WORD, BYTES, SIZE, WORD, WORD, WORD, WORD, WORDS, SIZE, WORDS, SIZE)
+vote = declare("same_vote", Voted, BYTES, SIZE, BYTES, SIZE, BYTES, SIZE, BYTES, SIZE)
+read = declare_granted("same_read", BYTES, SIZE, WORDS, SIZE)
+add = declare_granted("same_add", WORDS, SIZE, WORD, WORD, WORD)
+report = declare_granted("same_report", WORDS, SIZE, WORD, BYTES, SIZE, WORD, WORD, WORD, WORD, WORDS, SIZE, WORDS, SIZE)
 
-a, b, c, text = receive(9), receive(20), receive(40), lent_bytes(bytes(252))
-n = vote(a, len(a), b, len(b), c, len(c), text, len(text))
+a, b, c, text = receive(16, 9), receive(16, 20), receive(11, 40), lent_bytes(bytes(252))
+voted = vote(a, len(a), b, len(b), c, len(c), text, len(text))
+print(f"dropped={voted.first} {voted.second} {voted.third}")
+n = granted("same_vote", voted.answer)
 print("text=" + bytes(text[:n]).decode())
 
 fields = lent_words(50)

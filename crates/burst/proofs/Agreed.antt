@@ -12,7 +12,7 @@ use Rattle.laws.specs.Space.{pasted, leaves}
 use Rattle.laws.proofs.Tables.{length-table}
 use Rattle.laws.proofs.Parts.{length-part}
 use Rattle.laws.proofs.Pasted.{glue}
-use Rattle.burst.specs.Strip.{stripped}
+use Rattle.burst.specs.Strip.{lead, stripped}
 use Rattle.burst.specs.Vote.{votedLength, clashAt, votedText, tooLong, voteRows, voteSays, voteLeaves}
 use Rattle.burst.specs.Promise.{saidVoted, VotePromise}
 use Rattle.burst.specs.Steps.{firstDifference, votedBytes, stretch, blended, Agrees, Decides}
@@ -72,11 +72,12 @@ module _ (a b c out : List ℕ) (n : ℕ) (e : n ≡ votedLength a b c) where
   pub decide-13 : (n ≡ 0 → ⊥) → n ≤ 252 → length out < n → Decides a b c out (Refused 13) out
   decide-13 p h g = record { says = rw (← e, ne-eqb n 0 p, le-ltb 252 n h, lt-ltb (length out) n g); space = refl }
 
-module _ (a b c out : List ℕ) where
-  pub vote-1 : tooLong a b c ≡ true → VotePromise a b c out (Refused 1) out
+module _ (a b c out : List ℕ) (i j k : ℕ) (p : i ≡ lead a) (q : j ≡ lead b) (r : k ≡ lead c) where
+  pub vote-1 : tooLong a b c ≡ true → VotePromise a b c out (record { voted = Refused 1; first = i; second = j; third = k }) out
   unfolding voteSays voteLeaves
-  vote-1 h = record { says = rw h; space = rw h }
+  vote-1 h = record { says = rw h; first = p; second = q; third = r; space = rw h }
 
-  pub vote-on : (r : Voted) (left : List ℕ) → tooLong a b c ≡ false → Decides (stripped a) (stripped b) (stripped c) out r left → VotePromise a b c out r left
+  pub vote-on : (v : Voted) (left : List ℕ) → tooLong a b c ≡ false → Decides (stripped a) (stripped b) (stripped c) out v left
+      → VotePromise a b c out (record { voted = v; first = i; second = j; third = k }) left
   unfolding voteSays voteLeaves
-  vote-on r left h d = record { says = rw h (d .says); space = rw (h, ← d .says) (d .space) }
+  vote-on v left h d = record { says = rw h (d .says); first = p; second = q; third = r; space = rw (h, ← d .says) (d .space) }

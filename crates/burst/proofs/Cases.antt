@@ -8,14 +8,14 @@ use borrow.Author.Tests.{eq-eqb, ne-eqb, le-ltb}
 use lib.Dec.{eqb}
 use lib.ListN.{length, getD}
 use Rattle.laws.specs.Order.{granted, refused, refusedAt}
-use Rattle.laws.specs.Lists.{table, lowest}
+use Rattle.laws.specs.Lists.{table, lowest, tally}
 use Rattle.laws.specs.Space.{pasted}
 use Rattle.laws.proofs.Lowest.{lowest-here}
 use Rattle.laws.proofs.Ranges.{lowest-skip}
-use Rattle.burst.specs.Bits.{votedByte}
+use Rattle.burst.specs.Bits.{votedByte, bitsApart}
 use Rattle.burst.specs.Strip.{preamble, stripped}
 use Rattle.burst.specs.Vote.{heard, clash, settled, clashAt, tooLong, voteSays, voteLeaves}
-use Rattle.burst.proofs.Stripped.{left-whole}
+use Rattle.burst.proofs.Preambles.{left-whole}
 use Rattle.burst.proofs.Heard.{of-ab}
 
 -- bytes 54, 5A, 43 vote to 52, which none of them is
@@ -26,7 +26,7 @@ voted-52 = refl
 -- and so does the call, on three bursts of one byte each
 pub text-52 : (out : List ℕ) → 1 ≤ length out
     → (voteSays (0x54 ∷ []) (0x5A ∷ []) (0x43 ∷ []) (length out) ≡ granted 1) × (voteLeaves (0x54 ∷ []) (0x5A ∷ []) (0x43 ∷ []) out ≡ pasted out 0 (0x52 ∷ []))
-unfolding voteLeaves voteSays tooLong preamble clash settled table lowest votedByte
+unfolding voteLeaves voteSays tooLong preamble bitsApart tally clash settled table lowest votedByte
 text-52 out h =
     let a : stripped (0x54 ∷ []) ≡ 0x54 ∷ [] = left-whole 0x54 [] refl in
     let b : stripped (0x5A ∷ []) ≡ 0x5A ∷ [] = left-whole 0x5A [] refl in

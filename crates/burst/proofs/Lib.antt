@@ -1,4 +1,5 @@
 pub mod Stripped
+pub mod Preambles
 pub mod Bytes
 pub mod Whole
 pub mod Lengths

@@ -1,8 +1,8 @@
 -- What is said tells the answers apart; a refusal leaves the space as it was, and a granted vote writes the voted length and no more.
 use mathlib.Core.Path.{_≡_, refl, sym, ap, _∙_}
 use mathlib.Core.Bool.{Bool, true, false}
-use mathlib.Core.List.{List, [], _++_}
-use Prim.Native.Nat.{ℕ, _+_, _≤_}
+use mathlib.Core.List.{List, _++_}
+use Prim.Native.Nat.{ℕ, _+_, _-_, _≤_, min}
 use native.Mathlib.Omega.{arith}
 use borrow.Author.Tests.{eqb-false, ltb-false}
 use lib.ListN.{length, take, drop, replicate}
@@ -17,10 +17,12 @@ use Rattle.laws.proofs.Tables.{length-table}
 use Rattle.laws.proofs.Pasted.{pasted-length}
 use Rattle.burst.specs.Strip.{lead, stripped}
 use Rattle.burst.specs.Vote.{votedLength, clashAt, votedText, tooLong, voteRows, voteSays, voteLeaves}
-use Rattle.burst.specs.Promise.{LeadingPromise, StripPromise, saidVoted, VotePromise}
+use Rattle.burst.specs.Promise.{LeadingPromise, StripPromise, saidVoted, saidVote, VotePromise}
+use Rattle.burst.specs.declared.VoteAnswer.{VoteAnswer}
 use Rattle.burst.specs.declared.Voted.{Voted}
 use Rattle.burst.specs.declared.Voted.the-variants.{Text, Refused, RefusedAt}
-use Rattle.burst.proofs.Stripped.{all-lead, only-preamble}
+use Rattle.burst.proofs.Stripped.{stripped-rest}
+use Rattle.burst.proofs.Preambles.{all-lead, only-preamble}
 
 -- ---- leading
 
@@ -40,11 +42,16 @@ strip-no-choice burst r r′ p q =
     let e : r .ptr ≡ r′ .ptr = λ i. ((p .block ∙ sym (q .block)) i, (p .start ∙ sym (q .start)) i) in
     record { bytes = b; place = e; value = λ i. sliceVal (e i) (length (b i)) }
 
--- a burst of AB bytes only gives an empty part, at the burst's end
+-- the part's length says how many bytes were dropped: what `leading` says
+pub strip-says : (burst part : RefT (List ℕ)) (n : ℕ) → StripPromise burst part → LeadingPromise (burst .now) n
+    → n + length (part .now) ≡ length (burst .now)
+strip-says burst part n p q = rw (q .says, p .holds) (stripped-rest (burst .now))
+
+-- a burst of n AB bytes only: all but the first 16 are left, at the burst's end
 pub strip-only-preamble : (n : ℕ) (burst part : RefT (List ℕ)) → burst .now ≡ replicate n 0xAB → StripPromise burst part
-    → (part .now ≡ []) × (part .ptr .1 ≡ burst .ptr .1 + n)
+    → (part .now ≡ replicate (n - 16) 0xAB) × (part .ptr .1 ≡ burst .ptr .1 + min n 16)
 strip-only-preamble n burst part e p =
-    let l : lead (burst .now) ≡ n = ap lead e ∙ all-lead n in
+    let l : lead (burst .now) ≡ min n 16 = ap lead e ∙ all-lead n in
     (p .holds ∙ ap stripped e ∙ only-preamble n, p .start ∙ ap (λ (k : ℕ). burst .ptr .1 + k) l)
 
 -- ---- vote
@@ -60,11 +67,16 @@ said-one-to-one (RefusedAt n i) (Text m) e = clash cc
 said-one-to-one (RefusedAt n i) (Refused m) e = clash cc
 said-one-to-one (RefusedAt n i) (RefusedAt m j) e = cc
 
-pub vote-no-choice : (a b c out : List ℕ) (r r′ : Voted) (left left′ : List ℕ) → VotePromise a b c out r left → VotePromise a b c out r′ left′
+pub vote-no-choice : (a b c out : List ℕ) (r r′ : VoteAnswer) (left left′ : List ℕ) → VotePromise a b c out r left → VotePromise a b c out r′ left′
     → (r ≡ r′) × (left ≡ left′)
-vote-no-choice a b c out r r′ left left′ p q = (said-one-to-one r r′ (p .says ∙ sym (q .says)), p .space ∙ sym (q .space))
+vote-no-choice a b c out r r′ left left′ p q =
+    let v : r .voted ≡ r′ .voted = said-one-to-one (r .voted) (r′ .voted) (p .says ∙ sym (q .says)) in
+    let x : r .first ≡ r′ .first = p .first ∙ sym (q .first) in
+    let y : r .second ≡ r′ .second = p .second ∙ sym (q .second) in
+    let z : r .third ≡ r′ .third = p .third ∙ sym (q .third) in
+    (λ i. record { voted = v i; first = x i; second = y i; third = z i }, p .space ∙ sym (q .space))
 
-pub vote-refusal-writes-nothing : (a b c out : List ℕ) (r : Voted) (left : List ℕ) → VotePromise a b c out r left → isRefusal (saidVoted r) ≡ true → left ≡ out
+pub vote-refusal-writes-nothing : (a b c out : List ℕ) (r : VoteAnswer) (left : List ℕ) → VotePromise a b c out r left → isRefusal (saidVote r) ≡ true → left ≡ out
 unfolding voteLeaves
 vote-refusal-writes-nothing a b c out r left p h =
     p .space ∙ refusal-leaves _ (voteSays a b c (length out)) out (ap isRefusal (sym (p .says)) ∙ h)
@@ -109,7 +121,7 @@ pub record Writes (a b c out : List ℕ) (n : ℕ) (left : List ℕ) : Type 0 wh
   pub rest : drop n left ≡ drop n out
   pub size : length left ≡ length out
 
-pub vote-writes-the-voted-length : (a b c out : List ℕ) (r : Voted) (left : List ℕ) (n : ℕ) → VotePromise a b c out r left → saidVoted r ≡ granted n
+pub vote-writes-the-voted-length : (a b c out : List ℕ) (r : VoteAnswer) (left : List ℕ) (n : ℕ) → VotePromise a b c out r left → saidVote r ≡ granted n
     → Writes a b c out n left
 unfolding voteLeaves pasted
 vote-writes-the-voted-length a b c out r left n p e =

@@ -1,5 +1,8 @@
--- Paper 01, "From bursts to one text": each bit is what at least two have.
+-- Paper 01, "From bursts to one text": each bit is what at least two have. Paper 02 §8: in how many bits two bytes differ.
 use Prim.Native.Nat.{ℕ, zero, suc, _+_, _*_, _/_, _%_, _^_}
+use mathlib.Core.Bool.{not}
+use lib.Dec.{eqb}
+use Rattle.laws.specs.Lists.{table, tally}
 
 -- bit k of x, counted from the lowest, 0
 abbrev pub bit : ℕ → ℕ → ℕ
@@ -17,3 +20,7 @@ ofBits (suc n) f = ofBits n f + f n * 2 ^ n
 -- the byte each of whose eight bits is what at least two of x, y and z have
 unfoldable pub votedByte : ℕ → ℕ → ℕ → ℕ
 votedByte x y z = ofBits 8 (λ k. most (bit x k) (bit y k) (bit z k))
+
+-- in how many of their eight bits two bytes differ
+unfoldable pub bitsApart : ℕ → ℕ → ℕ
+bitsApart x y = tally (λ k. not (eqb (bit x k) (bit y k))) (table 8 (λ k. k))

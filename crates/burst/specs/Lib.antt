@@ -1,5 +1,6 @@
-pub mod Strip
 pub mod Bits
+pub mod Strip
+pub mod Meaning
 pub mod Vote
 pub mod Sent
 pub mod Promise

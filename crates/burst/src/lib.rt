@@ -16,32 +16,19 @@ pub enum Voted {
     RefusedAt(u32, usize),
 }
 
+// The vote's answer: what it settled; and for the station log, granted or refused, how many bytes were dropped of each burst.
+pub struct VoteAnswer {
+    pub voted: Voted,
+    pub first: usize,
+    pub second: usize,
+    pub third: usize,
+}
+
+// Whether a byte differs from AB in at most one bit.
 fn is_preamble(x: u8) -> bool
     ensures { λ r. ⌜ r ≡ preamble x ⌝ }
 {
-    x == 0xAB
-}
-
-// How many preamble bytes lead. One look at each, and at the byte that ends the run.
-pub fn leading(burst: &[u8]) -> usize
-    ensures { λ r. ⌜ LeadingPromise (now (burst .entry)) r ⌝ }
-{
-    let mut i: usize = 0;
-    while i < burst.len() {
-        if !is_preamble(burst[i]) {
-            return i;
-        }
-        i += 1;
-    }
-    i
-}
-
-// The part of the burst that follows its leading run; nothing is copied.
-pub fn strip(burst: &[u8]) -> &[u8]
-    ensures { λ r. ⌜ StripPromise (burst .entry) r ⌝ }
-{
-    let n = leading(burst);
-    &burst[n..]
+    u8::count_ones(x ^ 0xAB) <= 1
 }
 
 fn lesser(x: usize, y: usize) -> usize
@@ -54,6 +41,29 @@ fn greater(x: usize, y: usize) -> usize
     ensures { λ r. ⌜ r ≡ max x y ⌝ }
 {
     if x < y { y } else { x }
+}
+
+// How many bytes the stripping drops: the leading preamble bytes, up to 16. One look at each, and at the byte that ends the run.
+pub fn leading(burst: &[u8]) -> usize
+    ensures { λ r. ⌜ LeadingPromise (now (burst .entry)) r ⌝ }
+{
+    let most = lesser(burst.len(), 16);
+    let mut i: usize = 0;
+    while i < most {
+        if !is_preamble(burst[i]) {
+            return i;
+        }
+        i += 1;
+    }
+    i
+}
+
+// The part of the burst that follows the bytes dropped; nothing is copied.
+pub fn strip(burst: &[u8]) -> &[u8]
+    ensures { λ r. ⌜ StripPromise (burst .entry) r ⌝ }
+{
+    let n = leading(burst);
+    &burst[n..]
 }
 
 fn median(x: usize, y: usize, z: usize) -> usize
@@ -174,12 +184,26 @@ fn decide(a: &[u8], b: &[u8], c: &[u8], out: &mut [u8]) -> Voted
 }
 
 // The vote on three received bursts: the voted text over the front of out, and its length; or 1, 2, 4, 13 or 3, and nothing is
-// written.
-pub fn vote(a: &[u8], b: &[u8], c: &[u8], out: &mut [u8]) -> Voted
+// written. Each burst's number of dropped bytes goes with it, also beside a refusal.
+pub fn vote(a: &[u8], b: &[u8], c: &[u8], out: &mut [u8]) -> VoteAnswer
     ensures { λ r. ⌜ VotePromise (now (a .entry)) (now (b .entry)) (now (c .entry)) (now (out .entry)) r (now (out .exit)) ⌝ }
 {
+    let first = leading(a);
+    let second = leading(b);
+    let third = leading(c);
     if too_long(a, b, c) {
-        return Voted::Refused(1);
+        return VoteAnswer {
+            voted: Voted::Refused(1),
+            first,
+            second,
+            third,
+        };
     }
-    decide(strip(a), strip(b), strip(c), out)
+    let voted = decide(&a[first..], &b[second..], &c[third..], out);
+    VoteAnswer {
+        voted,
+        first,
+        second,
+        third,
+    }
 }

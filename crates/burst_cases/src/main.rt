@@ -1,13 +1,50 @@
 // Each line of the input is a case, its parts set off by bars: a name, and a burst to strip, or three to vote on and the number
-// of bytes lent. A byte `<` stands for AB. Prints the name and what the calls say. After a vote it prints the space lent, which
-// held full stops: so it shows what was written, and that a refusal wrote nothing.
+// of bytes lent. Prints the name and what the calls say. After a vote it prints the space lent, which held full stops: so it shows
+// what was written, and that a refusal wrote nothing.
+//
+// In the input and in what is printed, `<` stands for AB, and `!`, `"`, `#`, `$`, `%`, `&` and `'` for AB with bit 0, 1, 2, 3, 4, 5
+// or 6 turned. With bit 7 turned it is `+`, which stands for itself.
 ghost use Prim.Native.Nat.{_≤_};
 ghost use lib.ListN.{length};
+use burst::VoteAnswer;
 use burst::Voted;
 use codec::Number;
 
+const MARKS: [u8; 8] = *b"<!\"#$%&'";
+
+const PREAMBLES: [u8; 8] = [0xAB, 0xAA, 0xA9, 0xAF, 0xA3, 0xBB, 0x8B, 0xEB];
+
+// A byte of one table becomes the byte at the same index of the other; any other byte stays.
+fn exchange(b: u8, from: &[u8; 8], to: &[u8; 8]) -> u8 {
+    let mut i: usize = 0;
+    while i < 8 {
+        if from[i] == b {
+            return to[i];
+        }
+        i += 1;
+    }
+    b
+}
+
+fn meant(mark: u8) -> u8 {
+    exchange(mark, &MARKS, &PREAMBLES)
+}
+
+fn marked(b: u8) -> u8 {
+    exchange(b, &PREAMBLES, &MARKS)
+}
+
 fn say(text: &[u8]) {
     io::write_all(1, text);
+}
+
+// Bytes as they are written in the input.
+fn show(bytes: &[u8]) {
+    let mut i: usize = 0;
+    while i < bytes.len() {
+        say(&[marked(bytes[i])]);
+        i += 1;
+    }
 }
 
 // A word, and a number after it.
@@ -22,11 +59,11 @@ fn strip(burst: &[u8]) {
     let part = burst::strip(burst);
     tell(b" left=", part.len());
     say(b" part=");
-    say(part);
+    show(part);
 }
 
-fn answer(said: Voted) {
-    match said {
+fn settled(voted: Voted) {
+    match voted {
         Voted::Text(n) => tell(b": text=", n),
         Voted::Refused(number) => tell(b": refused=", number as usize),
         Voted::RefusedAt(number, index) => {
@@ -36,10 +73,19 @@ fn answer(said: Voted) {
     }
 }
 
+// What was settled, and how many bytes were dropped of each burst.
+fn answer(said: VoteAnswer) {
+    let voted = said.voted;
+    settled(voted);
+    tell(b" dropped=", said.first);
+    tell(b" ", said.second);
+    tell(b" ", said.third);
+}
+
 fn vote(a: &[u8], b: &[u8], c: &[u8], out: &mut [u8]) {
     answer(burst::vote(a, b, c, out));
     say(b" space=");
-    say(out);
+    show(out);
 }
 
 // A vote with the first bytes of a space lent, so many as are asked for.
@@ -111,11 +157,7 @@ fn cases(input: &[u8]) {
     }
 }
 
-fn meant(b: u8) -> u8 {
-    if b == b'<' { 0xAB } else { b }
-}
-
-// Puts AB for each `<`.
+// Puts the byte that is meant for each mark.
 fn put_preambles(input: &mut [u8]) {
     let mut i: usize = 0;
     while i < input.len() {
@@ -130,7 +172,7 @@ fn run(input: &mut [u8]) {
 }
 
 fn main() {
-    let mut input = [0u8; 8192];
+    let mut input = [0u8; 16384];
     let n = io::read_full(0, &mut input);
     run(&mut input[..n]);
 }

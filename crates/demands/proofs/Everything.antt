@@ -6,6 +6,7 @@ use Rattle.demands.proofs.Demand3.{demand3}
 use Rattle.demands.proofs.OutsideDemands.{outside-demands}
 use Rattle.demands.proofs.Both.{both-sides}
 use Rattle.demands.proofs.Impostors.{impostors}
+use Rattle.demands.proofs.DirtyPreambles.{dirty-preambles}
 
 pub everything : Everything
 everything = record {
@@ -15,4 +16,5 @@ everything = record {
   outside = outside-demands (demand1 .outside-number);
   both-sides = both-sides;
   impostors = impostors;
+  dirty-preambles = dirty-preambles;
 }

@@ -15,7 +15,9 @@ use Rattle.laws.proofs.Pasted.{pasted-length}
 use Rattle.laws.proofs.Tests.{impossible}
 use Rattle.laws.proofs.Tally.{tally-le}
 use Rattle.burst.specs.Sent.{OfBytes, Sent}
+use Rattle.burst.specs.Strip.{lead}
 use Rattle.burst.specs.Vote.{voteSays}
+use Rattle.burst.proofs.Stripped.{lead-most}
 use Rattle.burst.proofs.Consequence.{consequence}
 use Rattle.header.specs.Header.{Alert, textOf, WellFormed}
 use Rattle.header.specs.Reading.{readSays}
@@ -46,7 +48,9 @@ use Rattle.c_words.specs.Words.{frontWords, backWords, wordsOf, placesIn, field
 use Rattle.c_words.specs.Says.{fieldsSay, howMany, textSays, summarySays, howManyHits}
 use Rattle.c_words.specs.Promise.{ReadWordsPromise, WriteWordsPromise, ReportWordsPromise}
 use Rattle.c_words.proofs.Pastes.{front-length, back-length}
-use Rattle.same.specs.Promise.{SameVotePromise}
+use Rattle.same.specs.Says.{stripSays}
+use Rattle.same.specs.declared.SameVoted.{SameVoted}
+use Rattle.same.specs.Promise.{SameStripPromise, SameVotePromise}
 use Rattle.demands.specs.Changes.{Change, stood}
 use Rattle.demands.specs.Outside.{Tells, OutsideNumber}
 use Rattle.demands.specs.OutsideCalls.{CalledOutside}
@@ -64,12 +68,27 @@ gives s r v e g l =
 
 -- ---- the vote
 
-vote : (h a b c out : List ℕ) (r : ℕ) (left : List ℕ) → OfBytes h a b c → Sent h a b c (length out) → SameVotePromise a b c out r left
-    → (numberIn r ≡ 0) × (sizeOrIndexIn r ≡ length h) × (left ≡ pasted out 0 h)
+vote : (h a b c out : List ℕ) (r : SameVoted) (left : List ℕ) → OfBytes h a b c → Sent h a b c (length out) → SameVotePromise a b c out r left
+    → (numberIn (r .answer) ≡ 0) × (sizeOrIndexIn (r .answer) ≡ length h) × (left ≡ pasted out 0 h)
 vote h a b c out r left of s p =
     let k = consequence h a b c out of s in
-    let g = gives (voteSays a b c (length out)) r (length h) (p .says) (k .0) (omega (arith, s .short)) in
+    let g = gives (voteSays a b c (length out)) (r .answer) (length h) (p .says) (k .0) (omega (arith, s .short)) in
     (g .0, g .1, p .space ∙ k .1)
+
+strip-tells : (burst : List ℕ) (x : ℕ) → SameStripPromise burst x → sizeOrIndexIn x ≡ lead burst
+strip-tells burst x p = gives (stripSays burst) x (lead burst) (p .says) refl (omega (arith, lead-most burst)) .1
+
+vote-carries : (a b c out : List ℕ) (r : SameVoted) (left : List ℕ) (x y z : ℕ) → SameVotePromise a b c out r left
+    → SameStripPromise a x → SameStripPromise b y → SameStripPromise c z
+    → (r .first ≡ sizeOrIndexIn x) × (r .second ≡ sizeOrIndexIn y) × (r .third ≡ sizeOrIndexIn z) × (r .first ≤ 16) × (r .second ≤ 16) × (r .third ≤ 16)
+vote-carries a b c out r left x y z p f g h = (
+  p .first ∙ sym (strip-tells a x f),
+  p .second ∙ sym (strip-tells b y g),
+  p .third ∙ sym (strip-tells c z h),
+  rw (p .first) (lead-most a),
+  rw (p .second) (lead-most b),
+  rw (p .third) (lead-most c),
+)
 
 -- ---- a text that was read
 
@@ -285,5 +304,5 @@ outside-demands n = record {
   history = outside-history;
   reports = outside-reports n;
   texts = record { write-read = write-read n; read-write = read-write n };
-  vote = record { consequence = vote };
+  vote = record { consequence = vote; carries = vote-carries };
 }

@@ -15,8 +15,10 @@ use Rattle.burst.proofs.Consequence.{consequence}
 use Rattle.burst.proofs.Heard.{clash-lowest, clash-there}
 use Rattle.burst.proofs.Lengths.{each-short, middle-of, none-long}
 use Rattle.burst.proofs.NoChoice.Granted.{fits-each}
-use Rattle.burst.proofs.NoChoice.{said-one-to-one, strip-no-choice, strip-only-preamble, vote-granted, vote-no-choice, vote-writes-the-voted-length}
-use Rattle.burst.proofs.Stripped.{all-lead, only-preamble, stripped-bytes, stripped-short}
+use Rattle.burst.proofs.NoChoice.{leading-no-choice, said-one-to-one, strip-no-choice, strip-only-preamble, strip-says, vote-granted, vote-no-choice}
+use Rattle.burst.proofs.NoChoice.{vote-writes-the-voted-length}
+use Rattle.burst.proofs.Preambles.{all-lead, as-01, as-01-only, drops-16, drops-all, more-than-16, near, nine, only-preamble, rest-kept}
+use Rattle.burst.proofs.Stripped.{drops-lead, lead-is, lead-most, stripped-bytes, stripped-rest}
 use Rattle.burst.proofs.Whole.{whole-bit, whole-byte}
 use Rattle.c_answers.proofs.Keeps.{keeps}
 use Rattle.c_answers.proofs.Packs.{halves, told-apart}
@@ -34,6 +36,7 @@ use Rattle.demands.proofs.Calls.{any-run, calls}
 use Rattle.demands.proofs.Demand1.{every-call, every-number, every-numbered, every-refusal}
 use Rattle.demands.proofs.Demand2.{demand2, voting}
 use Rattle.demands.proofs.Demand3.{nobody-else, pages, reports, the-history}
+use Rattle.demands.proofs.DirtyPreambles.{dirty-preambles}
 use Rattle.demands.proofs.Everything.{everything}
 use Rattle.demands.proofs.Outside.{outside-call, outside-refusal}
 use Rattle.demands.proofs.OutsideDemands.{outside-demands}
@@ -72,3 +75,4 @@ use Rattle.report.proofs.Given.{given as report-Given-given}
 use Rattle.report.proofs.Kept.{place-order}
 use Rattle.report.proofs.Own.{own-only}
 use Rattle.report.proofs.Spans.{length-pairs}
+use Rattle.same.proofs.NoChoice.{vote-no-choice as same-NoChoice-vote-no-choice}

@@ -14,7 +14,7 @@ use Rattle.codec.specs.Promise.{BetweenPromise, SamePromise, DigitsAtPromise, p
 use Rattle.codec.specs.Codec.{no}
 use Rattle.burst.specs.Strip.{stripped}
 use Rattle.burst.specs.Vote.{votedLength, clashAt, tooLong, voteSays}
-use Rattle.burst.specs.Promise.{LeadingPromise, StripPromise, VotePromise, saidVoted}
+use Rattle.burst.specs.Promise.{LeadingPromise, StripPromise, VotePromise, saidVote}
 use Rattle.header.specs.Header.{Alert, isOrigin, isEvent, isIssue, isSender, isDuration, start, origin, event, sender, header, textOf}
 use Rattle.header.specs.Reading.{readSays, ReadStops, TableStops}
 use Rattle.header.specs.Writing.{writeSays}
@@ -163,7 +163,7 @@ pub record EveryCall : Type 0 where
 -- ---- "and a refusal writes nothing": the table of all calls that are lent space
 
 pub record EveryRefusal : Type 0 where
-  pub vote : (a b c out : List ℕ) → RefusalWritesNothing saidVoted out (VotePromise a b c out)
+  pub vote : (a b c out : List ℕ) → RefusalWritesNothing saidVote out (VotePromise a b c out)
   pub write : (f : Fields) (out : List ℕ) → RefusalWritesNothing saidWrote out (λ r left. WritePromise f out left r)
   pub add : (book : List ℕ) (place client wish : ℕ) → RefusalWritesNothing saidEdited book (AddPromise book place client wish)
   pub remove : (book : List ℕ) (place client : ℕ) → RefusalWritesNothing saidEdited book (RemovePromise book place client)

@@ -16,8 +16,8 @@ use Rattle.codec.specs.Codec.{got}
 use Rattle.burst.specs.Strip.{stripped}
 use Rattle.burst.specs.Vote.{votedLength, votedText}
 use Rattle.burst.specs.Sent.{OfBytes, Sent}
-use Rattle.burst.specs.Promise.{VotePromise, saidVoted}
-use Rattle.burst.specs.declared.Voted.{Voted}
+use Rattle.burst.specs.Promise.{VotePromise, saidVote}
+use Rattle.burst.specs.declared.VoteAnswer.{VoteAnswer}
 use Rattle.header.specs.Header.{Alert, isOrigin, isEvent, isIssue, isDuration, isSender, header, partsOf, textOf, WellFormed}
 use Rattle.header.specs.Reading.{readSays}
 use Rattle.header.specs.Answers.{saidRead, saidWrote, alertIn, fieldsOf}
@@ -156,12 +156,12 @@ pub record Lifetimes : Type 0 where
 
 pub record Voting : Type 0 where
   -- a granted vote writes the voted text, of the middle length, and no other byte
-  pub writes : (a b c out : List ℕ) (r : Voted) (left : List ℕ) (n : ℕ) → VotePromise a b c out r left → saidVoted r ≡ granted n
+  pub writes : (a b c out : List ℕ) (r : VoteAnswer) (left : List ℕ) (n : ℕ) → VotePromise a b c out r left → saidVote r ≡ granted n
       → (n ≡ votedLength (stripped a) (stripped b) (stripped c)) × (take n left ≡ votedText (stripped a) (stripped b) (stripped c) n)
       × (drop n left ≡ drop n out)
   -- the consequence: a text of 1 to 252 bytes that was sent, with at each bit two bursts that have it right, is what the vote gives
-  pub consequence : (h a b c out : List ℕ) (r : Voted) (left : List ℕ) → OfBytes h a b c → Sent h a b c (length out) → VotePromise a b c out r left
-      → (saidVoted r ≡ granted (length h)) × (left ≡ pasted out 0 h)
+  pub consequence : (h a b c out : List ℕ) (r : VoteAnswer) (left : List ℕ) → OfBytes h a b c → Sent h a b c (length out) → VotePromise a b c out r left
+      → (saidVote r ≡ granted (length h)) × (left ≡ pasted out 0 h)
 
 pub record Demand2 : Type 0 where
   pub reading-and-writing : ReadingAndWriting

@@ -1,10 +1,12 @@
--- All of it in one record: the demands, also as a caller from outside meets them, both sides of each line, and the impostors.
+-- All of it in one record: the demands, also as a caller from outside meets them, both sides of each line, the impostors, and
+-- what the requests of paper 02 add.
 use Rattle.demands.specs.Demand1.{Demand1}
 use Rattle.demands.specs.Demand2.{Demand2}
 use Rattle.demands.specs.Demand3.{Demand3}
 use Rattle.demands.specs.OutsideDemands.{OutsideDemands}
 use Rattle.demands.specs.Both.{BothSides}
 use Rattle.demands.specs.Impostors.{Impostors}
+use Rattle.demands.specs.DirtyPreambles.{DirtyPreambles}
 
 pub record Everything : Type 0 where
   pub demand1 : Demand1
@@ -13,3 +15,4 @@ pub record Everything : Type 0 where
   pub outside : OutsideDemands
   pub both-sides : BothSides
   pub impostors : Impostors
+  pub dirty-preambles : DirtyPreambles

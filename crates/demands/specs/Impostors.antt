@@ -4,8 +4,8 @@ use mathlib.Core.Path.{_≡_}
 use mathlib.Core.List.{List, [], _∷_}
 use lib.ListN.{length}
 use Rattle.laws.specs.Order.{granted}
-use Rattle.burst.specs.Promise.{VotePromise, saidVoted}
-use Rattle.burst.specs.declared.Voted.{Voted}
+use Rattle.burst.specs.Promise.{VotePromise, saidVote}
+use Rattle.burst.specs.declared.VoteAnswer.{VoteAnswer}
 use Rattle.header.specs.Header.{Alert, textOf, WellFormed}
 use Rattle.header.specs.Answers.{saidRead}
 use Rattle.header.specs.Promise.{ReadPromise}
@@ -30,8 +30,8 @@ pub record Impostors : Type 0 where
   -- "Refuses always: shut out by demand 2, which reads every text of the form." The sample is one
   pub reads-every : (a : Alert) (r : ReadAnswer) → WellFormed a → ReadPromise (textOf a) r → saidRead r ≡ granted a
   pub reads-sample : (r : ReadAnswer) → ReadPromise sample r → saidRead r ≡ granted sampleSays
-  pub some-vote : (out : List ℕ) (r : Voted) (left : List ℕ) → 1 ≤ length out → VotePromise (0x54 ∷ []) (0x5A ∷ []) (0x43 ∷ []) out r left
-      → saidVoted r ≡ granted 1
+  pub some-vote : (out : List ℕ) (r : VoteAnswer) (left : List ℕ) → 1 ≤ length out → VotePromise (0x54 ∷ []) (0x5A ∷ []) (0x43 ∷ []) out r left
+      → saidVote r ≡ granted 1
   -- "Answers always alike: demand 2 again, since two texts read to different fields."
   pub two-texts : (r q : ReadAnswer) → ReadPromise (lasting "0130") r → ReadPromise (lasting "9930") q → r .fields ≡ q .fields → ⊥
   -- "An edit that does nothing": what says that it was done changed the book

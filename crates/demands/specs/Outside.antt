@@ -1,4 +1,5 @@
--- Demand 1 of the 13 calls from outside (include/same.h): the same three sentences, of answers that are one number of 64 bits.
+-- Demand 1 of the 13 calls from outside (include/same.h): the same three sentences, of answers that are one number of 64 bits, or
+-- for the vote that and three numbers more.
 use Prim.Native.Nat.{ℕ, _<_}
 use mathlib.Core.Path.{_≡_}
 use mathlib.Core.Bool.{false}
@@ -16,6 +17,7 @@ use Rattle.c_answers.specs.Answer.{capped, inHalves, bare, numberIn, sizeOrInde
 use Rattle.c_words.specs.Says.{fieldsSay, howMany, textSays, summarySays, howManyHits}
 use Rattle.c_words.specs.Promise.{ReadWordsPromise, WriteWordsPromise, ReportWordsPromise}
 use Rattle.same.specs.Says.{stripSays, goodSays}
+use Rattle.same.specs.declared.SameVoted.{SameVoted}
 use Rattle.same.specs.Promise.{SameStripPromise, SameVotePromise, SameListedPromise, SameClassPromise, SameMatchesPromise, SameGoodPromise}
 use Rattle.same.specs.Promise.{SameAddPromise, SameRemovePromise, SameLoadPromise, SamePagePromise}
 use Rattle.demands.specs.Forms.{LeavesNoChoice, LeavesNoChoiceOf}
@@ -47,7 +49,7 @@ abbrev pub NumberWritesNothing : List ℕ → (ℕ → List ℕ → Type 0) → 
 NumberWritesNothing lent Promise = (r : ℕ) (left : List ℕ) → Promise r left → 0 < numberIn r → left ≡ lent
 
 pub record OutsideRefusal : Type 0 where
-  pub vote : (a b c out : List ℕ) → NumberWritesNothing out (SameVotePromise a b c out)
+  pub vote : (a b c out : List ℕ) (r : SameVoted) (left : List ℕ) → SameVotePromise a b c out r left → 0 < numberIn (r .answer) → left ≡ out
   pub read : (text fields : List ℕ) → NumberWritesNothing fields (ReadWordsPromise text fields)
   pub write : (fields out : List ℕ) → NumberWritesNothing out (WriteWordsPromise fields out)
   pub add : (book : List ℕ) (place client wish : ℕ) → NumberWritesNothing book (SameAddPromise book place client wish)

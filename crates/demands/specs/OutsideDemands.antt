@@ -25,7 +25,8 @@ use Rattle.report.specs.Own.{Agree}
 use Rattle.c_answers.specs.Answer.{numberIn, sizeOrIndexIn, numberOf}
 use Rattle.c_words.specs.Words.{fieldsIn, summaryWords}
 use Rattle.c_words.specs.Promise.{ReadWordsPromise, WriteWordsPromise, ReportWordsPromise}
-use Rattle.same.specs.Promise.{SameVotePromise, SameAddPromise, SameRemovePromise, SameLoadPromise}
+use Rattle.same.specs.declared.SameVoted.{SameVoted}
+use Rattle.same.specs.Promise.{SameStripPromise, SameVotePromise, SameAddPromise, SameRemovePromise, SameLoadPromise}
 use Rattle.demands.specs.Changes.{Change, edits, loads, changeNumber, stoodFrom, stood}
 use Rattle.demands.specs.OutsideCalls.{CalledOutside, Callable}
 
@@ -106,8 +107,12 @@ pub record OutsideTexts : Type 0 where
 
 pub record OutsideVote : Type 0 where
   -- a text that was sent, with at each bit two bursts that have it right, is what same_vote gives
-  pub consequence : (h a b c out : List ℕ) (r : ℕ) (left : List ℕ) → OfBytes h a b c → Sent h a b c (length out) → SameVotePromise a b c out r left
-      → (numberIn r ≡ 0) × (sizeOrIndexIn r ≡ length h) × (left ≡ pasted out 0 h)
+  pub consequence : (h a b c out : List ℕ) (r : SameVoted) (left : List ℕ) → OfBytes h a b c → Sent h a b c (length out) → SameVotePromise a b c out r left
+      → (numberIn (r .answer) ≡ 0) × (sizeOrIndexIn (r .answer) ≡ length h) × (left ≡ pasted out 0 h)
+  -- granted or refused, the three numbers are those that same_strip says of the bursts, each at most 16
+  pub carries : (a b c out : List ℕ) (r : SameVoted) (left : List ℕ) (x y z : ℕ) → SameVotePromise a b c out r left
+      → SameStripPromise a x → SameStripPromise b y → SameStripPromise c z
+      → (r .first ≡ sizeOrIndexIn x) × (r .second ≡ sizeOrIndexIn y) × (r .third ≡ sizeOrIndexIn z) × (r .first ≤ 16) × (r .second ≤ 16) × (r .third ≤ 16)
 
 pub record OutsideDemands : Type 0 where
   pub history : OutsideHistory

@@ -13,12 +13,14 @@ use Rattle.book_rules.specs.History.{standing}
 use Rattle.book_rules.specs.Load.{addAll, items, loadSays}
 use Rattle.book_rules.specs.Rules.{Rec, below, countsRight, empty, good, okRec, pairBelow, recAt, recs, rising, total, unusedZero}
 use Rattle.book_rules.specs.Subscription.{howOften}
-use Rattle.burst.specs.Bits.{most, votedByte}
-use Rattle.burst.specs.Promise.{StripPromise}
+use Rattle.burst.specs.Bits.{bitsApart, most, votedByte}
+use Rattle.burst.specs.Meaning.{Drops, wholeRun}
+use Rattle.burst.specs.Promise.{LeadingPromise, StripPromise}
 use Rattle.burst.specs.Promise.StripPromise.{block, start}
+use Rattle.burst.specs.Promise.VotePromise.{first, second, third}
 use Rattle.burst.specs.Sent.{OfBytes, Sent}
 use Rattle.burst.specs.Sent.Sent.{middle, right}
-use Rattle.burst.specs.Strip.{lead, preamble, stripped}
+use Rattle.burst.specs.Strip.{lead, leadUpTo, preamble, stripped}
 use Rattle.burst.specs.Vote.{clash, clashAt, heard, middle as burst-Vote-middle, settled, tooLong, voteRows, voteSays, votedLength}
 use Rattle.c_answers.specs.Answer.{inHalves}
 use Rattle.clock.specs.Answers.{asked, clockSays, dateSays, lifetimeSays, saidChecked, saidDate, saidLife, saidTimed, timesSays}
@@ -40,6 +42,7 @@ use Rattle.demands.specs.Demand2.ReadingAndWriting.{write-read-same}
 use Rattle.demands.specs.Demand3.{OwnOnly, ReportIs, TheHistory}
 use Rattle.demands.specs.Demand3.Pages.{page-own-only}
 use Rattle.demands.specs.Demand3.Reports.{report-exact}
+use Rattle.demands.specs.DirtyPreambles.{DirtyPreambles}
 use Rattle.demands.specs.Everything.{Everything}
 use Rattle.demands.specs.Impostors.Impostors.{add-changes, after-load, no-hit, one-hit, reads-every, reads-sample, remove-changes, some-addition}
 use Rattle.demands.specs.Impostors.Impostors.{some-removal, some-vote, two-hits, two-texts}
@@ -47,6 +50,7 @@ use Rattle.demands.specs.Malformed.{Malformed}
 use Rattle.demands.specs.Outside.{OutsideCall, OutsideNumber, OutsideRefusal}
 use Rattle.demands.specs.OutsideCalls.{CalledOutside}
 use Rattle.demands.specs.OutsideDemands.{OutsideHistory, OutsideReports, OutsideTexts, OutsideVote}
+use Rattle.demands.specs.OutsideDemands.OutsideVote.{carries}
 use Rattle.demands.specs.Program.{ProgramNumbers}
 use Rattle.demands.specs.Program.ProgramNumbers.{only-23, says-23}
 use Rattle.event.specs.Class.{byThird, classOf}
@@ -77,3 +81,4 @@ use Rattle.report.specs.Exact.Lists.{exactly, order as report-Exact-order}
 use Rattle.report.specs.Hits.{hasClass, hitsOf, isOf, matching, pairs}
 use Rattle.report.specs.Own.{Agree}
 use Rattle.report.specs.Report.{alertSays, listSays, reportSays, roomRows, timesRows}
+use Rattle.same.specs.Promise.SameVotePromise.{first as same-Promise-first, second as same-Promise-second, third as same-Promise-third}

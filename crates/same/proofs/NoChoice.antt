@@ -13,15 +13,21 @@ use Rattle.page.specs.Page.{pageOf}
 use Rattle.c_answers.specs.Answer.{numberIn}
 use Rattle.c_answers.proofs.Keeps.{keeps, keeps-of}
 use mathlib.Core.Path.{_≡_, refl, sym, _∙_}
+use Rattle.same.specs.declared.SameVoted.{SameVoted}
 use Rattle.same.specs.Promise.{SameStripPromise, SameVotePromise, SameListedPromise, SameClassPromise, SameMatchesPromise}
 use Rattle.same.specs.Promise.{SameGoodPromise, SameAddPromise, SameRemovePromise, SameLoadPromise, SamePagePromise}
 
 pub strip-no-choice : (burst : List ℕ) (r q : ℕ) → SameStripPromise burst r → SameStripPromise burst q → r ≡ q
 strip-no-choice burst r q a b = a .says ∙ sym (b .says)
 
-pub vote-no-choice : (x y z out : List ℕ) (r q : ℕ) (left kept : List ℕ) → SameVotePromise x y z out r left → SameVotePromise x y z out q kept
+pub vote-no-choice : (x y z out : List ℕ) (r q : SameVoted) (left kept : List ℕ) → SameVotePromise x y z out r left → SameVotePromise x y z out q kept
     → (r ≡ q) × (left ≡ kept)
-vote-no-choice x y z out r q left kept a b = (a .says ∙ sym (b .says), a .space ∙ sym (b .space))
+vote-no-choice x y z out r q left kept a b =
+    let s : r .answer ≡ q .answer = a .says ∙ sym (b .says) in
+    let f : r .first ≡ q .first = a .first ∙ sym (b .first) in
+    let g : r .second ≡ q .second = a .second ∙ sym (b .second) in
+    let h : r .third ≡ q .third = a .third ∙ sym (b .third) in
+    (λ i. record { answer = s i; first = f i; second = g i; third = h i }, a .space ∙ sym (b .space))
 
 pub listed-no-choice : (x y z r q : ℕ) → SameListedPromise x y z r → SameListedPromise x y z q → r ≡ q
 listed-no-choice x y z r q a b = a .says ∙ sym (b .says)
@@ -53,11 +59,11 @@ page-no-choice input out r q left kept a b = (a .says ∙ sym (b .says), a .spac
 
 -- ---- a refusal leaves lent space as it was: a caller sees it by the number in the low half
 
-pub vote-refusal-writes-nothing : (a b c out : List ℕ) (r : ℕ) (left : List ℕ) → SameVotePromise a b c out r left → 0 < numberIn r → left ≡ out
+pub vote-refusal-writes-nothing : (a b c out : List ℕ) (r : SameVoted) (left : List ℕ) → SameVotePromise a b c out r left → 0 < numberIn (r .answer) → left ≡ out
 unfolding voteLeaves
 vote-refusal-writes-nothing a b c out r left p =
     let said = voteSays a b c (length out) in
-    keeps (λ n d. pasted d 0 (votedText (stripped a) (stripped b) (stripped c) n)) said said out left r refl (p .says) (p .space)
+    keeps (λ n d. pasted d 0 (votedText (stripped a) (stripped b) (stripped c) n)) said said out left (r .answer) refl (p .says) (p .space)
 
 pub add-refusal-writes-nothing : (w : List ℕ) (place client wish r : ℕ) (left : List ℕ) → SameAddPromise w place client wish r left → 0 < numberIn r → left ≡ w
 add-refusal-writes-nothing w place client wish r left p =

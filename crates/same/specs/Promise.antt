@@ -1,11 +1,12 @@
 -- What the calls from outside promise: the number that they answer, and every lent word or byte afterwards. Those of reading, writing
--- and reporting stand in crate words.
+-- and reporting stand in crate c_words.
 use Prim.Native.Nat.{ℕ}
 use mathlib.Core.List.{List}
 use mathlib.Core.Path.{_≡_}
 use lib.ListN.{length}
 use Rattle.laws.specs.Lists.{one}
 use Rattle.laws.specs.Space.{pasted, leaves}
+use Rattle.burst.specs.Strip.{lead}
 use Rattle.burst.specs.Vote.{voteSays, voteLeaves}
 use Rattle.event.specs.Events.{code, isListed}
 use Rattle.event.specs.Class.{classOf}
@@ -17,14 +18,18 @@ use Rattle.page_printing.specs.Promise.{printSays}
 use Rattle.page.specs.Page.{pageOf}
 use Rattle.c_answers.specs.Answer.{inHalves, bare}
 use Rattle.same.specs.Says.{stripSays, goodSays}
+use Rattle.same.specs.declared.SameVoted.{SameVoted}
 
 -- ---- bursts
 
 pub record SameStripPromise (burst : List ℕ) (r : ℕ) : Type 0 where
   pub says : r ≡ inHalves (stripSays burst)
 
-pub record SameVotePromise (a b c out : List ℕ) (r : ℕ) (left : List ℕ) : Type 0 where
-  pub says : r ≡ inHalves (voteSays a b c (length out))
+pub record SameVotePromise (a b c out : List ℕ) (r : SameVoted) (left : List ℕ) : Type 0 where
+  pub says : r .answer ≡ inHalves (voteSays a b c (length out))
+  pub first : r .first ≡ lead a
+  pub second : r .second ≡ lead b
+  pub third : r .third ≡ lead c
   pub space : left ≡ voteLeaves a b c out
 
 -- ---- events and places: 1 for yes, 0 for no

@@ -6,7 +6,7 @@ use Rattle.book_rules.specs.Form.{form}
 use Rattle.book_rules.specs.Edits.{bookRow}
 use Rattle.burst.specs.Strip.{lead}
 
--- how many bytes lead; it never refuses
+-- how many bytes the stripping drops; it never refuses
 abbrev pub stripSays : List ℕ → Said ℕ
 stripSays burst = granted (lead burst)
 

@@ -12,7 +12,17 @@ use clock::Clock;
 
 // ---- bursts
 
-// How many bytes lead the burst.
+// What same_vote answers: the answer of 64 bits; and for the station log, granted or refused, how many bytes were dropped of each
+// burst, 0 to 16.
+#[repr(C)]
+pub struct SameVoted {
+    pub answer: u64,
+    pub first: u32,
+    pub second: u32,
+    pub third: u32,
+}
+
+// How many bytes the stripping drops, 0 to 16.
 #[no_mangle]
 pub extern "C" fn same_strip(burst: &[u8]) -> u64
     ensures { λ r. ⌜ SameStripPromise (now (burst .entry)) r ⌝ }
@@ -21,11 +31,22 @@ pub extern "C" fn same_strip(burst: &[u8]) -> u64
 }
 
 // The vote on three received bursts: the length of the text, which stands at the front; or 1, 2, 4, 13 or 3, and nothing is written.
+// Each burst's number of dropped bytes goes with it, also beside a refusal.
 #[no_mangle]
-pub extern "C" fn same_vote(a: &[u8], b: &[u8], c: &[u8], out: &mut [u8]) -> u64
+pub extern "C" fn same_vote(a: &[u8], b: &[u8], c: &[u8], out: &mut [u8]) -> SameVoted
     ensures { λ r. ⌜ SameVotePromise (now (a .entry)) (now (b .entry)) (now (c .entry)) (now (out .entry)) r (now (out .exit)) ⌝ }
 {
-    voted(burst::vote(a, b, c, out))
+    let said = burst::vote(a, b, c, out);
+    let settled = said.voted;
+    let first = said.first as u32;
+    let second = said.second as u32;
+    let third = said.third as u32;
+    SameVoted {
+        answer: voted(settled),
+        first,
+        second,
+        third,
+    }
 }
 
 // ---- header texts

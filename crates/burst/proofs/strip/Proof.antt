@@ -1,22 +1,16 @@
 -- At most all bytes lead, so the part that starts so many bytes on is there, and is what is left.
-use mathlib.Core.Path.{_≡_, refl, ap, _∙_}
-use mathlib.Core.List.{List}
-use Prim.Native.Nat.{ℕ, _-_, _≤_}
+use mathlib.Core.Path.{refl}
+use Prim.Native.Nat.{_≤_}
 use native.Mathlib.Omega.{arith}
-use lib.ListN.{length, take, drop, length-drop}
-use lib.Seq.{take-all}
-use Rattle.burst.specs.Strip.{lead, stripped}
-use Rattle.burst.proofs.Stripped.{lead-within}
+use lib.ListN.{length}
+use Rattle.burst.proofs.Stripped.{lead-fits, stripped-is}
 use borrow.Author.Needs.{needs}
 use Rattle.burst.proofs.strip.Statement.{statement}
 use Rattle.burst.proofs.strip.Tie as tie
 
-rest : (l : List ℕ) (n : ℕ) → take (length l - n) (drop n l) ≡ drop n l
-rest l n = take-all (length l - n) (drop n l) (omega (arith, length-drop n l))
-
 -- the start is within
 start : (c : tie.After-leading) → c .leading .result ≤ length (c .before .before .args .burst .now)
-start c = let e = c .leading .ensures .says in omega (arith, lead-within (c .before .before .args .burst .now))
+start c = lead-fits _ _ (c .leading .ensures .says)
 
 leading-requires : tie.Need-leading-requires
 leading-requires c κs = search needs
@@ -31,16 +25,7 @@ part-result-end : tie.Need-part-result-end
 part-result-end c = search needs
 
 returns : tie.Need-returns
-unfolding stripped
-returns c =
-    let l = c .before .before .before .args .burst .now in
-    let n = c .before .leading .result in
-    let e : n ≡ lead l = c .before .leading .ensures .says in
-    record {
-      holds = rest l n ∙ ap (λ (k : ℕ). drop k l) e;
-      block = refl;
-      start = omega arith;
-    }
+returns c = record { holds = stripped-is _ _ (c .before .leading .ensures .says); block = refl; start = omega (arith, c .before .leading .ensures .says) }
 
 pub strip-spec : {M : Type 1} → statement M
 strip-spec =
