@@ -198,7 +198,8 @@ struct tally {
 };
 
 /* Takes both answers and looks at every space that was lent. */
-static void judge_with(struct tally *t, uint64_t library_said, uint64_t plain_said, bool more_alike)
+/* Where an answer has more than 64 bits, more says how the rest differs, and is empty where it does not. */
+static void judge_all(struct tally *t, uint64_t library_said, uint64_t plain_said, const char *more)
 {
     uint32_t number = same_number(plain_said);
     bool refused = number != 0;
@@ -207,17 +208,16 @@ static void judge_with(struct tally *t, uint64_t library_said, uint64_t plain_sa
     t->inputs++;
     t->granted += number == 0;
     t->numbers |= 1ull << (number & 63);
-    if (library_said == plain_said && spaces && more_alike) return;
+    if (library_said == plain_said && spaces && !*more) return;
     if (t->differences++ < 3)
         printf("DIFFERENCE in %s, input %llu: library %u beside %u, plain %u beside %u%s%s\n", t->call,
                (unsigned long long)t->inputs, same_number(library_said), same_size_or_index(library_said), number,
-               same_size_or_index(plain_said), spaces ? "" : ", lent space differs",
-               more_alike ? "" : ", numbers of dropped bytes differ");
+               same_size_or_index(plain_said), spaces ? "" : ", lent space differs", more);
 }
 
 static void judge(struct tally *t, uint64_t library_said, uint64_t plain_said)
 {
-    judge_with(t, library_said, plain_said, true);
+    judge_all(t, library_said, plain_said, "");
 }
 
 static void print_tally(const struct tally *t)
@@ -441,7 +441,7 @@ static size_t some_length(void) { return one_in(30) ? (one_in(2) ? BOOK - 1 : on
 
 /* ---- comparing, call by call */
 
-/* n preamble bytes as they may arrive: clean, some with one wrong bit, and now and then one with another. */
+/* n preamble bytes as they may arrive: clean, or some with a wrong bit and one of the first 20 perhaps with another. */
 static void preamble(uint8_t *burst, size_t n)
 {
     memset(burst, 0xAB, n);
@@ -486,7 +486,11 @@ static void compare_vote(struct tally *t)
     lend(&lent_a, NULL, room);
     struct same_voted x = library.vote(pa, na, pb, nb, pc, nc, ours(&lent_a), room);
     struct same_voted y = plain.vote(pa, na, pb, nb, pc, nc, theirs(&lent_a), room);
-    judge_with(t, x.answer, y.answer, x.first == y.first && x.second == y.second && x.third == y.third);
+    char more[80] = "";
+    if (x.first != y.first || x.second != y.second || x.third != y.third)
+        snprintf(more, sizeof more, ", dropped %u %u %u, not %u %u %u", x.first, x.second, x.third, y.first, y.second,
+                 y.third);
+    judge_all(t, x.answer, y.answer, more);
 }
 
 static size_t some_field_words(void) { return one_in(12) ? 49 + below(3) : one_in(20) ? below(60) : 50; }
@@ -804,7 +808,8 @@ static void once_strip(const struct api *api)
 static void once_vote(const struct api *api)
 {
     for (int i = 0; i < VARIETY; i++)
-        sink = api->vote(bench.bursts[i][0], 268, bench.bursts[i][1], 268, bench.bursts[i][2], 268, bench.out, 252).answer;
+        sink = api->vote(bench.bursts[i][0], 268, bench.bursts[i][1], 268, bench.bursts[i][2], 268, bench.out, 252)
+                   .answer;
 }
 
 static void once_read(const struct api *api)

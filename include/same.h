@@ -16,7 +16,7 @@
  *   An answer of 64 bits has the number in its low half and a length, count or index in its high half.
  *   Number 0 means granted. Any other number is the refusal of that number in the list below.
  *   The high half is 0 unless the call's comment names something for it.
- *   same_vote answers a struct with that answer and three numbers more.
+ *   same_vote answers a struct: that answer, and three counts of dropped bytes.
  *
  * What a call does to lent space
  *   A granted call writes the bytes or words that its comment names, and no others: no NUL stands behind a text.
@@ -35,10 +35,10 @@
  *   at its guard page. bench/stack measures all of them.
  *
  * Bursts
- *   A header text is sent three times. A burst is one of them as received: some preamble bytes, 16 if all went well, and
- *   then the text. A preamble byte is sent as 0xAB and may arrive with one wrong bit: a byte counts as preamble if it
- *   differs from 0xAB in at most one bit. The stripped burst is what follows the leading preamble bytes, of which at most
- *   16 are dropped: twenty leave four. A first byte + (0x2B) is dropped as well; no header text begins with it.
+ *   A header text is sent three times. A burst is one of them as received: some preamble bytes, 16 if all went well,
+ *   and then the text. A preamble byte is sent as 0xAB. A byte that differs from it in at most one bit counts as one.
+ *   The leading bytes that count are dropped, at most 16 of them, and what follows is the stripped burst: of twenty bytes
+ *   0xAB four are left in it. A + (0x2B) counts too; no header text begins with it.
  *
  * Places
  *   A place is a number of six digits, PSSCCC: P a part of the county (0: all of it), SS the state, CCC the county

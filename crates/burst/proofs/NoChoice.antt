@@ -47,9 +47,9 @@ pub strip-says : (burst part : RefT (List ℕ)) (n : ℕ) → StripPromise burst
     → n + length (part .now) ≡ length (burst .now)
 strip-says burst part n p q = rw (q .says, p .holds) (stripped-rest (burst .now))
 
--- a burst of n AB bytes only: all but the first 16 are left, at the burst's end
+-- a burst of n AB bytes only: what is left after the first 16, or after all
 pub strip-only-preamble : (n : ℕ) (burst part : RefT (List ℕ)) → burst .now ≡ replicate n 0xAB → StripPromise burst part
-    → (part .now ≡ replicate (n - 16) 0xAB) × (part .ptr .1 ≡ burst .ptr .1 + min n 16)
+    → (part .now ≡ replicate (n - min n 16) 0xAB) × (part .ptr .1 ≡ burst .ptr .1 + min n 16)
 strip-only-preamble n burst part e p =
     let l : lead (burst .now) ≡ min n 16 = ap lead e ∙ all-lead n in
     (p .holds ∙ ap stripped e ∙ only-preamble n, p .start ∙ ap (λ (k : ℕ). burst .ptr .1 + k) l)

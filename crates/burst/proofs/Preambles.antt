@@ -1,16 +1,16 @@
 -- Paper 02 §8: nine bytes count as preamble; sixteen of them at most are dropped, and what follows is left; and where that is paper 01's rule.
 use mathlib.Core.Path.{_≡_, refl, sym, ap, _∙_}
-use mathlib.Core.Bool.{Bool, true, false}
+use mathlib.Core.Bool.{Bool, true, false, Bool·beq}
 use mathlib.Core.Logic.{⊎-elim}
 use mathlib.Core.List.{List, [], _∷_, _++_}
 use Prim.Native.Nat.{ℕ, zero, suc, _+_, _-_, _≤_, _<_, min}
 use native.Mathlib.Omega.{arith}
 use borrow.Author.Tests.{eqb-true}
-use lib.ListN.{length, drop, getD, replicate, length-append, length-replicate, getD-replicate, List·getD-append, List·getD-eq-default}
+use lib.ListN.{length, drop, getD, replicate, length-append, length-drop, length-replicate, getD-replicate, List·getD-append, List·getD-eq-default}
 use lib.Seq.{drop-append-seam, drop-append-le, getD-append-add}
 use lib.Bits.{bitXor}
 use lib.Count.{ones, onesIn}
-use lib.Dec.{eqb, leb}
+use lib.Dec.{eqb}
 use Rattle.laws.specs.Order.{choose}
 use Rattle.laws.specs.Lists.{every, some, all, table, tally}
 use Rattle.laws.proofs.All.{all-at}
@@ -19,25 +19,19 @@ use Rattle.laws.proofs.Tests.{le-or-lt}
 use Rattle.burst.specs.Bits.{bitsApart}
 use Rattle.burst.specs.Strip.{preamble, lead, stripped}
 use Rattle.burst.specs.Meaning.{nearAB, Drops, wholeRun}
-use Rattle.burst.proofs.Stripped.{drops-lead, lead-is}
+use Rattle.burst.proofs.Stripped.{drops-lead, lead-is, stripped-rest}
 
 -- ---- which bytes count: a test of all 256, which is computed
 
-sameBool : Bool → Bool → Bool
-sameBool true b = b
-sameBool false true = false
-sameBool false false = true
-
-same-bool : (a b : Bool) → sameBool a b ≡ true → a ≡ b
-unfolding sameBool
-same-bool true true e = refl
-same-bool true false e = sym e
-same-bool false true e = e
-same-bool false false e = refl
+beq-eq : (a b : Bool) → Bool·beq a b ≡ true → a ≡ b
+beq-eq true true e = refl
+beq-eq true false e = sym e
+beq-eq false true e = e
+beq-eq false false e = refl
 
 pub near : (x : ℕ) → x < 256 → preamble x ≡ some (eqb x) nearAB
-unfolding preamble bitsApart tally table all sameBool
-near x h = same-bool (preamble x) (some (eqb x) nearAB) (all-at 256 x (λ y. sameBool (preamble y) (some (eqb y) nearAB)) refl h)
+unfolding preamble bitsApart tally table all
+near x h = beq-eq (preamble x) (some (eqb x) nearAB) (all-at 256 x (λ y. Bool·beq (preamble y) (some (eqb y) nearAB)) refl h)
 
 pub nine : nearAB ≡ 0xAB ∷ 0xAA ∷ 0xA9 ∷ 0xAF ∷ 0xA3 ∷ 0xBB ∷ 0x8B ∷ 0xEB ∷ 0x2B ∷ []
 unfolding table
@@ -77,7 +71,7 @@ module _ (p rest : List ℕ) (each : every preamble p ≡ true) where
   unfolding stripped
   rest-kept h g = rw (drops-all h g) (drop-append-seam p rest)
 
-  -- more than sixteen
+  -- sixteen or more
   pub drops-16 : 16 ≤ length p → lead (p ++ rest) ≡ 16
   drops-16 h =
       sym (lead-is (p ++ rest) 16 (record {
@@ -102,32 +96,28 @@ drop-same zero n = let z : n ≡ n - 0 = omega arith in ap (λ (k : ℕ). replic
 drop-same (suc m) zero = let z : 0 ≡ 0 - suc m = omega arith in ap (λ (k : ℕ). replicate k 0xAB) z
 drop-same (suc m) (suc n) = let z : n - m ≡ suc n - suc m = omega arith in drop-same m n ∙ ap (λ (k : ℕ). replicate k 0xAB) z
 
-module _ (n : ℕ) (rest : List ℕ) where
-  long : length {A = ℕ} (replicate n 0xAB) ≡ n
-  long = length-replicate n 0xAB
+long : (n : ℕ) → length {A = ℕ} (replicate n 0xAB) ≡ n
+long n = length-replicate n 0xAB
 
-  pub more-than-16 : 16 ≤ n → stripped (replicate n 0xAB ++ rest) ≡ replicate (n - 16) 0xAB ++ rest
-  unfolding stripped
-  more-than-16 h =
-      let l : 16 ≤ length {A = ℕ} (replicate n 0xAB) = omega (arith, long) in
-      rw (drops-16 (replicate n 0xAB) rest (all-count n) l, drop-append-le 16 (replicate n 0xAB) rest l, drop-same 16 n)
+pub from-16 : (n : ℕ) (rest : List ℕ) → 16 ≤ n → stripped (replicate n 0xAB ++ rest) ≡ replicate (n - 16) 0xAB ++ rest
+unfolding stripped
+from-16 n rest h =
+    let l : 16 ≤ length {A = ℕ} (replicate n 0xAB) = omega (arith, long n) in
+    rw (drops-16 (replicate n 0xAB) rest (all-count n) l, drop-append-le 16 (replicate n 0xAB) rest l, drop-same 16 n)
 
 -- nothing but AB bytes
 pub all-lead : (n : ℕ) → lead (replicate n 0xAB) ≡ min n 16
 all-lead n =
-    let l : length {A = ℕ} (replicate n 0xAB) ≡ n = length-replicate n 0xAB in
     sym (lead-is (replicate n 0xAB) (min n 16) (record {
-      within = omega arith;
+      within = omega (arith, long n);
       most = omega arith;
       each = λ i h. rw (getD-replicate {A = ℕ} n i 0xAB 0 (omega arith)) ab;
-      ends = λ h g. absurd (omega arith);
+      ends = λ h g. absurd (omega (arith, long n));
     }))
 
-pub only-preamble : (n : ℕ) → stripped (replicate n 0xAB) ≡ replicate (n - 16) 0xAB
+pub only-preamble : (n : ℕ) → stripped (replicate n 0xAB) ≡ replicate (n - min n 16) 0xAB
 unfolding stripped
-only-preamble n =
-    let z : n - min n 16 ≡ n - 16 = omega arith in
-    rw (all-lead n) (drop-same (min n 16) n ∙ ap (λ (k : ℕ). replicate k 0xAB) z)
+only-preamble n = rw (all-lead n) (drop-same (min n 16) n)
 
 -- ---- paper 01's rule
 
@@ -156,14 +146,16 @@ unfolding preamble bitsApart tally table
 zero-off = refl
 
 module _ (l : List ℕ) where
-  -- the same where at most 16 AB bytes lead, and of fewer the next byte does not count
+  -- the same where at most 16 AB bytes lead and, if fewer, the next byte does not count
   pub as-01 : wholeRun l ≤ 16 → (wholeRun l < 16 → preamble (getD l (wholeRun l) 0) ≡ false) → lead l ≡ wholeRun l
   as-01 h g = sym (lead-is l (wholeRun l) (record { within = run-within l; most = h; each = λ i f. rw (run-of-ab l i f) ab; ends = λ f e. g f }))
 
-  -- and nowhere else
-  pub as-01-only : lead l ≡ wholeRun l → (wholeRun l ≤ 16) × (wholeRun l < 16 → preamble (getD l (wholeRun l) 0) ≡ false)
+  -- and nowhere else: equal parts have equal lengths, so as many bytes are dropped
+  pub as-01-only : stripped l ≡ drop (wholeRun l) l → (wholeRun l ≤ 16) × (wholeRun l < 16 → preamble (getD l (wholeRun l) 0) ≡ false)
   as-01-only e =
-      let d : Drops l (wholeRun l) = rw (← e) (drops-lead l) in (
+      let n : length (stripped l) ≡ length l - wholeRun l = ap length e ∙ length-drop (wholeRun l) l in
+      let q : lead l ≡ wholeRun l = omega (arith, run-within l, stripped-rest l) in
+      let d : Drops l (wholeRun l) = rw (← q) (drops-lead l) in (
         d .most,
         λ h. ⊎-elim (λ g. d .ends h g) (λ g. rw (List·getD-eq-default l 0 {n = wholeRun l} g) zero-off) (le-or-lt (wholeRun l) (length l)),
       )

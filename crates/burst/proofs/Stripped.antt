@@ -1,5 +1,5 @@
 -- How many bytes are dropped is told by the bytes themselves: those count, and then comes one that does not, or the 17th, or the end.
-use mathlib.Core.Path.{_≡_, refl, sym}
+use mathlib.Core.Path.{_≡_, refl}
 use mathlib.Core.Bool.{Bool, true, false}
 use mathlib.Core.Logic.{⊎-elim}
 use mathlib.Core.List.{List, [], _∷_}
@@ -10,46 +10,37 @@ use lib.Seq.{getD-drop, take-all}
 use Rattle.laws.specs.Order.{choose}
 use Rattle.laws.proofs.Tests.{no-both, le-or-lt}
 use Rattle.burst.specs.Strip.{preamble, leadUpTo, lead, stripped}
-use Rattle.burst.specs.Meaning.{Drops}
+use Rattle.burst.specs.Meaning.{CountsTo, Drops}
 use Rattle.burst.specs.Sent.{Bytes}
 
 -- ---- what is counted, up to any number m
 
-record Run (m : ℕ) (l : List ℕ) (n : ℕ) : Type 0 where
-  within : n ≤ length l
-  most : n ≤ m
-  each : (i : ℕ) → i < n → preamble (getD l i 0) ≡ true
-  ends : n < m → n < length l → preamble (getD l n 0) ≡ false
-
 module _ (m x : ℕ) (xs : List ℕ) where
-  none : preamble x ≡ false → Run (suc m) (x ∷ xs) 0
+  none : preamble x ≡ false → CountsTo (suc m) (x ∷ xs) 0
   none e = record { within = omega arith; most = omega arith; each = λ i h. absurd (omega arith); ends = λ h g. e }
 
-  one-more : (n : ℕ) → preamble x ≡ true → Run m xs n → Run (suc m) (x ∷ xs) (suc n)
+  one-more : (n : ℕ) → preamble x ≡ true → CountsTo m xs n → CountsTo (suc m) (x ∷ xs) (suc n)
   one-more n e r = record { within = omega (arith, r .within); most = omega (arith, r .most); each = at; ends = λ h g. r .ends (omega arith) (omega arith) }
     where
       at : (i : ℕ) → i < suc n → preamble (getD (x ∷ xs) i 0) ≡ true
       at zero h = e
       at (suc i) h = r .each i (omega arith)
 
-  next : (t : Bool) (n : ℕ) → preamble x ≡ t → Run m xs n → Run (suc m) (x ∷ xs) (choose t (suc n) 0)
+  next : (t : Bool) (n : ℕ) → preamble x ≡ t → CountsTo m xs n → CountsTo (suc m) (x ∷ xs) (choose t (suc n) 0)
   next true n e r = one-more n e r
   next false n e r = none e
 
-run : (m : ℕ) (l : List ℕ) → Run m l (leadUpTo m l)
+counts : (m : ℕ) (l : List ℕ) → CountsTo m l (leadUpTo m l)
 unfolding leadUpTo
-run zero l = record { within = omega arith; most = omega arith; each = λ i h. absurd (omega arith); ends = λ h g. absurd (omega arith) }
-run (suc m) [] = record { within = omega arith; most = omega arith; each = λ i h. absurd (omega arith); ends = λ h g. absurd (omega arith) }
-run (suc m) (x ∷ xs) = next m x xs (preamble x) (leadUpTo m xs) refl (run m xs)
+counts zero l = record { within = omega arith; most = omega arith; each = λ i h. absurd (omega arith); ends = λ h g. absurd (omega arith) }
+counts (suc m) [] = record { within = omega arith; most = omega arith; each = λ i h. absurd (omega arith); ends = λ h g. absurd (omega arith) }
+counts (suc m) (x ∷ xs) = next m x xs (preamble x) (leadUpTo m xs) refl (counts m xs)
 
 -- ---- and up to 16: it is so, and of no other number
 
-sixteen : (l : List ℕ) (n : ℕ) → Run 16 l n → Drops l n
-sixteen l n r = record { within = r .within; most = r .most; each = r .each; ends = r .ends }
-
 pub drops-lead : (l : List ℕ) → Drops l (lead l)
 unfolding lead
-drops-lead l = sixteen l _ (run _ l)
+drops-lead l = counts _ l
 
 no-less : (l : List ℕ) (n m : ℕ) → Drops l n → Drops l m → n < m → ⊥
 no-less l n m p q h = no-both (preamble (getD l n 0)) (q .each n h) (p .ends (omega (arith, q .most)) (omega (arith, q .within)))

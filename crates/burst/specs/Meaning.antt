@@ -18,13 +18,17 @@ turned x k = choose (eqb (bit x k) 0) (x + 2 ^ k) (x - 2 ^ k)
 abbrev pub nearAB : List ℕ
 nearAB = 0xAB ∷ table 8 (turned 0xAB)
 
--- the stripping drops n bytes: each of them counts as preamble; there are at most 16; and with fewer the burst ends there, or the
--- next byte does not count
-pub record Drops (burst : List ℕ) (n : ℕ) : Type 0 where
+-- n bytes are counted, up to m: each of them counts as preamble; and where they are fewer than m, the burst ends there, or the next
+-- byte does not count
+pub record CountsTo (m : ℕ) (burst : List ℕ) (n : ℕ) : Type 0 where
   pub within : n ≤ length burst
-  pub most : n ≤ 16
+  pub most : n ≤ m
   pub each : (i : ℕ) → i < n → preamble (getD burst i 0) ≡ true
-  pub ends : n < 16 → n < length burst → preamble (getD burst n 0) ≡ false
+  pub ends : n < m → n < length burst → preamble (getD burst n 0) ≡ false
+
+-- the stripping drops n bytes
+abbrev pub Drops : List ℕ → ℕ → Type 0
+Drops burst n = CountsTo 16 burst n
 
 -- paper 01 dropped the whole run of AB bytes, however long, and nothing else
 unfoldable pub wholeRun : List ℕ → ℕ

@@ -9,7 +9,7 @@ ghost use Rattle.burst.specs.Vote.{middle, votedLength, tooLong};
 ghost use Rattle.burst.specs.Promise.{LeadingPromise, StripPromise, VotePromise};
 ghost use Rattle.burst.specs.Steps.{firstDifference, votedBytes, stretch, Agrees, Decides};
 
-// What the vote answers: a text of so many bytes, a number, or a number with the index that goes with it.
+// What the vote settles: a text of so many bytes, a number, or a number with the index that goes with it.
 pub enum Voted {
     Text(usize),
     Refused(u32),

@@ -3,7 +3,7 @@
 // what was written, and that a refusal wrote nothing.
 //
 // In the input and in what is printed, `<` stands for AB, and `!`, `"`, `#`, `$`, `%`, `&` and `'` for AB with bit 0, 1, 2, 3, 4, 5
-// or 6 turned. With bit 7 turned it is `+`, which stands for itself.
+// or 6 turned. With bit 7 turned it is `+`, which stands for itself. So no name of a case has one of these marks.
 ghost use Prim.Native.Nat.{_≤_};
 ghost use lib.ListN.{length};
 use burst::VoteAnswer;
@@ -53,7 +53,7 @@ fn tell(text: &[u8], n: usize) {
     io::print_decimal(1, n as u64);
 }
 
-// How many bytes lead, and the part that is left.
+// How many bytes are dropped, and the part that is left.
 fn strip(burst: &[u8]) {
     tell(b": leading=", burst::leading(burst));
     let part = burst::strip(burst);
@@ -172,7 +172,7 @@ fn run(input: &mut [u8]) {
 }
 
 fn main() {
-    let mut input = [0u8; 16384];
+    let mut input = [0u8; 8192];
     let n = io::read_full(0, &mut input);
     run(&mut input[..n]);
 }

@@ -75,16 +75,18 @@ vote h a b c out r left of s p =
     let g = gives (voteSays a b c (length out)) (r .answer) (length h) (p .says) (k .0) (omega (arith, s .short)) in
     (g .0, g .1, p .space ∙ k .1)
 
-strip-tells : (burst : List ℕ) (x : ℕ) → SameStripPromise burst x → sizeOrIndexIn x ≡ lead burst
-strip-tells burst x p = gives (stripSays burst) x (lead burst) (p .says) refl (omega (arith, lead-most burst)) .1
+strip-tells : (burst : List ℕ) (x : ℕ) → SameStripPromise burst x → (numberIn x ≡ 0) × (sizeOrIndexIn x ≡ lead burst) × (sizeOrIndexIn x ≤ 16)
+strip-tells burst x p =
+    let g = gives (stripSays burst) x (lead burst) (p .says) refl (omega (arith, lead-most burst)) in
+    (g .0, g .1, rw (g .1) (lead-most burst))
 
 vote-carries : (a b c out : List ℕ) (r : SameVoted) (left : List ℕ) (x y z : ℕ) → SameVotePromise a b c out r left
     → SameStripPromise a x → SameStripPromise b y → SameStripPromise c z
     → (r .first ≡ sizeOrIndexIn x) × (r .second ≡ sizeOrIndexIn y) × (r .third ≡ sizeOrIndexIn z) × (r .first ≤ 16) × (r .second ≤ 16) × (r .third ≤ 16)
 vote-carries a b c out r left x y z p f g h = (
-  p .first ∙ sym (strip-tells a x f),
-  p .second ∙ sym (strip-tells b y g),
-  p .third ∙ sym (strip-tells c z h),
+  p .first ∙ sym (strip-tells a x f .1),
+  p .second ∙ sym (strip-tells b y g .1),
+  p .third ∙ sym (strip-tells c z h .1),
   rw (p .first) (lead-most a),
   rw (p .second) (lead-most b),
   rw (p .third) (lead-most c),
@@ -304,5 +306,5 @@ outside-demands n = record {
   history = outside-history;
   reports = outside-reports n;
   texts = record { write-read = write-read n; read-write = read-write n };
-  vote = record { consequence = vote; carries = vote-carries };
+  vote = record { consequence = vote; strip = strip-tells; carries = vote-carries };
 }

@@ -17,7 +17,7 @@ use Rattle.burst.proofs.Lengths.{each-short, middle-of, none-long}
 use Rattle.burst.proofs.NoChoice.Granted.{fits-each}
 use Rattle.burst.proofs.NoChoice.{leading-no-choice, said-one-to-one, strip-no-choice, strip-only-preamble, strip-says, vote-granted, vote-no-choice}
 use Rattle.burst.proofs.NoChoice.{vote-writes-the-voted-length}
-use Rattle.burst.proofs.Preambles.{all-lead, as-01, as-01-only, drops-16, drops-all, more-than-16, near, nine, only-preamble, rest-kept}
+use Rattle.burst.proofs.Preambles.{all-lead, as-01, as-01-only, drops-16, drops-all, from-16, near, nine, only-preamble, rest-kept}
 use Rattle.burst.proofs.Stripped.{drops-lead, lead-is, lead-most, stripped-bytes, stripped-rest}
 use Rattle.burst.proofs.Whole.{whole-bit, whole-byte}
 use Rattle.c_answers.proofs.Keeps.{keeps}

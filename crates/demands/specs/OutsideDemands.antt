@@ -1,4 +1,5 @@
--- Demands 2 and 3 as a caller from outside meets them (include/same.h): of words, bytes, and answers of 64 bits.
+-- Demands 2 and 3 as a caller from outside meets them (include/same.h): of words, bytes, and answers of 64 bits, to which the
+-- vote adds three counts.
 use Prim.Native.Nat.{ℕ, _+_, _-_, _*_, _≤_}
 use mathlib.Core.Path.{_≡_}
 use mathlib.Core.Bool.{true, false}
@@ -7,6 +8,7 @@ use lib.ListN.{length, take, drop, replicate, getD}
 use Rattle.laws.specs.Order.{Said, choose}
 use Rattle.laws.specs.Lists.{tally}
 use Rattle.laws.specs.Space.{pasted}
+use Rattle.burst.specs.Strip.{lead}
 use Rattle.burst.specs.Sent.{OfBytes, Sent}
 use Rattle.header.specs.Header.{Alert}
 use Rattle.header.specs.Answers.{alertIn}
@@ -109,7 +111,9 @@ pub record OutsideVote : Type 0 where
   -- a text that was sent, with at each bit two bursts that have it right, is what same_vote gives
   pub consequence : (h a b c out : List ℕ) (r : SameVoted) (left : List ℕ) → OfBytes h a b c → Sent h a b c (length out) → SameVotePromise a b c out r left
       → (numberIn (r .answer) ≡ 0) × (sizeOrIndexIn (r .answer) ≡ length h) × (left ≡ pasted out 0 h)
-  -- granted or refused, the three numbers are those that same_strip says of the bursts, each at most 16
+  -- same_strip is always granted, and says how many bytes are dropped, at most 16
+  pub strip : (burst : List ℕ) (x : ℕ) → SameStripPromise burst x → (numberIn x ≡ 0) × (sizeOrIndexIn x ≡ lead burst) × (sizeOrIndexIn x ≤ 16)
+  -- granted or refused, the three numbers are those that it says of the bursts, each at most 16
   pub carries : (a b c out : List ℕ) (r : SameVoted) (left : List ℕ) (x y z : ℕ) → SameVotePromise a b c out r left
       → SameStripPromise a x → SameStripPromise b y → SameStripPromise c z
       → (r .first ≡ sizeOrIndexIn x) × (r .second ≡ sizeOrIndexIn y) × (r .third ≡ sizeOrIndexIn z) × (r .first ≤ 16) × (r .second ≤ 16) × (r .third ≤ 16)

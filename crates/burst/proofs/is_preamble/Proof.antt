@@ -1,5 +1,5 @@
 -- The bits that are set in the difference are those in which the two differ.
-use mathlib.Core.Path.{_≡_, ap}
+use mathlib.Core.Path.{ap}
 use Prim.Native.Nat.{ℕ}
 use lib.Dec.{leb}
 use Rattle.burst.specs.Strip.{preamble}

@@ -1,5 +1,5 @@
 -- At the loop's head all bytes before index i count; the first that does not, the 17th or the end settles the number.
-use mathlib.Core.Path.{_≡_, sym, _∙_}
+use mathlib.Core.Path.{sym, _∙_}
 use Prim.Native.Nat.{_-_}
 use native.Mathlib.Omega.{arith}
 use borrow.Author.Needs.{needs}

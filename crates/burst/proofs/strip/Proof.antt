@@ -1,4 +1,4 @@
--- At most all bytes lead, so the part that starts so many bytes on is there, and is what is left.
+-- At most all bytes are dropped, so the part that starts so many bytes on is there, and is what is left.
 use mathlib.Core.Path.{refl}
 use Prim.Native.Nat.{_≤_}
 use native.Mathlib.Omega.{arith}

@@ -1,7 +1,9 @@
 -- The numbers are counted first, and go with every answer; 1 comes before anything is cut; all else is said by the vote on the parts.
 use mathlib.Core.Path.{_≡_, sym, _∙_}
+use mathlib.Core.Bool.{false}
 use Prim.Native.Nat.{_≤_}
 use lib.ListN.{length}
+use Rattle.burst.specs.Vote.{tooLong}
 use Rattle.burst.proofs.Stripped.{lead-fits, stripped-is}
 use Rattle.burst.proofs.Agreed.{vote-1, vote-on}
 use borrow.Author.Needs.{needs}
@@ -20,6 +22,10 @@ fits-b c = lead-fits _ _ (c .leading2 .ensures .says)
 
 fits-c : (c : tie.After-leading3) → c .leading3 .result ≤ length (start (c .before .before .before) .args .c .now)
 fits-c c = lead-fits _ _ (c .leading3 .ensures .says)
+
+-- no burst is too long
+short : (c : tie.Else1) → let a = start (c .before .before .before .before .before) .args in tooLong (a .a .now) (a .b .now) (a .c .now) ≡ false
+short c = sym (c .before .too-long .ensures) ∙ c .if1 .left
 
 leading-requires : tie.Need-leading-requires
 leading-requires c κs = search needs
@@ -86,7 +92,7 @@ returns-2 c =
     let z = third .leading3 .ensures .says in
     let d = c .before .before .decide in
     vote-on _ _ _ _ _ _ _ x y z (d .result) (d .last .1 .1 .1 .0)
-    (sym (asked .before .too-long .ensures) ∙ asked .if1 .left)
+    (short asked)
     (rw (← stripped-is _ _ x, ← stripped-is _ _ y, ← stripped-is _ _ z) (d .ensures))
 
 pub vote-spec : {M : Type 1} → statement M

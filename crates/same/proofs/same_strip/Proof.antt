@@ -1,4 +1,4 @@
--- The count of leading bytes stands beside 0, since stripping is never refused.
+-- The count of dropped bytes stands beside 0, since stripping is never refused.
 use mathlib.Core.Path.{_≡_, refl, sym, ap, _∙_}
 use Prim.Native.Nat.{ℕ}
 use Rattle.burst.specs.Strip.{lead}
