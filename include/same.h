@@ -37,8 +37,8 @@
  * Bursts
  *   A header text is sent three times. A burst is one of them as received: some preamble bytes, 16 if all went well,
  *   and then the text. A preamble byte is sent as 0xAB. A byte that differs from it in at most one bit counts as one.
- *   The leading bytes that count are dropped, at most 16 of them, and what follows is the stripped burst: of twenty bytes
- *   0xAB four are left in it. A + (0x2B) counts too; no header text begins with it.
+ *   The leading bytes that count are dropped, at most 16 of them, and what follows is the stripped burst: of twenty
+ *   bytes 0xAB four are left in it. A + (0x2B) counts too; no header text begins with it.
  *
  * Places
  *   A place is a number of six digits, PSSCCC: P a part of the county (0: all of it), SS the state, CCC the county

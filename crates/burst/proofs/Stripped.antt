@@ -26,15 +26,15 @@ module _ (m x : ℕ) (xs : List ℕ) where
       at zero h = e
       at (suc i) h = r .each i (omega arith)
 
-  next : (t : Bool) (n : ℕ) → preamble x ≡ t → CountsTo m xs n → CountsTo (suc m) (x ∷ xs) (choose t (suc n) 0)
-  next true n e r = one-more n e r
-  next false n e r = none e
+  first-byte : (t : Bool) (n : ℕ) → preamble x ≡ t → CountsTo m xs n → CountsTo (suc m) (x ∷ xs) (choose t (suc n) 0)
+  first-byte true n e r = one-more n e r
+  first-byte false n e r = none e
 
 counts : (m : ℕ) (l : List ℕ) → CountsTo m l (leadUpTo m l)
 unfolding leadUpTo
 counts zero l = record { within = omega arith; most = omega arith; each = λ i h. absurd (omega arith); ends = λ h g. absurd (omega arith) }
 counts (suc m) [] = record { within = omega arith; most = omega arith; each = λ i h. absurd (omega arith); ends = λ h g. absurd (omega arith) }
-counts (suc m) (x ∷ xs) = next m x xs (preamble x) (leadUpTo m xs) refl (counts m xs)
+counts (suc m) (x ∷ xs) = first-byte m x xs (preamble x) (leadUpTo m xs) refl (counts m xs)
 
 -- ---- and up to 16: it is so, and of no other number
 
@@ -93,11 +93,11 @@ module _ (l : List ℕ) (i : ℕ) (c : Counted l i) where
     each = λ j g. ⊎-elim (λ f. c .each j f) (λ f. let q : j ≡ i = omega arith in rw q e) (le-or-lt j i);
   }
 
-  settled : (i < 16 → i < length l → preamble (getD l i 0) ≡ false) → i ≡ lead l
-  settled e = lead-is l i (record { within = omega (arith, c .within); most = omega (arith, c .within); each = c .each; ends = e })
+  told : (i < 16 → i < length l → preamble (getD l i 0) ≡ false) → i ≡ lead l
+  told e = lead-is l i (record { within = omega (arith, c .within); most = omega (arith, c .within); each = c .each; ends = e })
 
   pub failed : preamble (getD l i 0) ≡ false → i ≡ lead l
-  failed e = settled (λ f g. e)
+  failed e = told (λ f g. e)
 
   pub ended : min (length l) 16 ≤ i → i ≡ lead l
-  ended h = settled (λ f g. absurd (omega arith))
+  ended h = told (λ f g. absurd (omega arith))

@@ -11,12 +11,12 @@ use Rattle.burst.specs.Bits.{bit}
 use Rattle.burst.specs.Strip.{preamble}
 
 -- a byte with its bit k turned
-abbrev pub turned : ℕ → ℕ → ℕ
-turned x k = choose (eqb (bit x k) 0) (x + 2 ^ k) (x - 2 ^ k)
+abbrev pub bitTurned : ℕ → ℕ → ℕ
+bitTurned x k = choose (eqb (bit x k) 0) (x + 2 ^ k) (x - 2 ^ k)
 
 -- AB, and AB with one of its eight bits turned
 abbrev pub nearAB : List ℕ
-nearAB = 0xAB ∷ table 8 (turned 0xAB)
+nearAB = 0xAB ∷ table 8 (bitTurned 0xAB)
 
 -- n bytes are counted, up to m: each of them counts as preamble; and where they are fewer than m, the burst ends there, or the next
 -- byte does not count

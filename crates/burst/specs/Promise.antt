@@ -28,6 +28,7 @@ saidVoted (Text n) = granted n
 saidVoted (Refused n) = refused n
 saidVoted (RefusedAt n i) = refusedAt n i
 
+-- and so what the whole answer says
 abbrev pub saidVote : VoteAnswer → Said ℕ
 saidVote r = saidVoted (r .voted)
 

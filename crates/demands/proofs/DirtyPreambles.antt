@@ -25,18 +25,18 @@ same-part l h g = ap (λ (k : ℕ). drop k l) (as-01 l h g)
 
 module _ (p rest : List ℕ) (w : Before p rest) where
   count : lead (p ++ rest) ≡ length p
-  count = drops-all p rest (w .preamble-bytes .each) (w .preamble-bytes .most) (w .next)
+  count = drops-all p rest (w .preamble-bytes .each) (w .preamble-bytes .most) (w .ends)
 
   kept : stripped (p ++ rest) ≡ rest
-  kept = rest-kept p rest (w .preamble-bytes .each) (w .preamble-bytes .most) (w .next)
+  kept = rest-kept p rest (w .preamble-bytes .each) (w .preamble-bytes .most) (w .ends)
 
 module _ (h p q s x y z out : List ℕ) (r : VoteAnswer) (left : List ℕ) (u : Before p x) (v : Before q y) (w : Before s z) where
-  heard : OfBytes h (p ++ x) (q ++ y) (s ++ z) → 1 ≤ length h → length h ≤ 252 → length h ≤ length out
+  gives : OfBytes h (p ++ x) (q ++ y) (s ++ z) → 1 ≤ length h → length h ≤ 252 → length h ≤ length out
       → length (p ++ x) ≤ 268 → length (q ++ y) ≤ 268 → length (s ++ z) ≤ 268 → votedLength x y z ≡ length h
       → ((i k : ℕ) → i < length h → k < 8 → Two (Right h i k x) (Right h i k y) (Right h i k z))
       → VotePromise (p ++ x) (q ++ y) (s ++ z) out r left
       → (saidVote r ≡ granted (length h)) × (left ≡ pasted out 0 h) × Carries r (length p) (length q) (length s)
-  heard of some short room la lb lc middle right m =
+  gives of some short room la lb lc middle right m =
       let a : stripped (p ++ x) ≡ x = kept p x u in
       let b : stripped (q ++ y) ≡ y = kept q y v in
       let c : stripped (s ++ z) ≡ z = kept s z w in
@@ -75,7 +75,7 @@ dirty-preambles = record {
   as-01 = same-part;
   as-01-only = as-01-only;
   dropped-whole = λ p rest w. (count p rest w, kept p rest w);
-  after-16 = λ p rest w e. kept p rest (record { preamble-bytes = w; next = λ l. absurd (omega arith) });
-  text-kept = λ p text w. kept p (0x5A ∷ text) (record { preamble-bytes = w; next = λ l. z-off });
-  heard = heard;
+  after-16 = λ p rest w e. kept p rest (record { preamble-bytes = w; ends = λ l. absurd (omega arith) });
+  text-kept = λ p text w. kept p (0x5A ∷ text) (record { preamble-bytes = w; ends = λ l. z-off });
+  gives = gives;
 }

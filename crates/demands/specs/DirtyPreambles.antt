@@ -30,7 +30,7 @@ pub record Preamble (p : List ℕ) : Type 0 where
 -- a preamble and what follows it: where it has fewer than 16 bytes, the next does not count (past the end stands 0, which does not)
 pub record Before (p rest : List ℕ) : Type 0 where
   pub preamble-bytes : Preamble p
-  pub next : length p < 16 → preamble (getD rest 0 0) ≡ false
+  pub ends : length p < 16 → preamble (getD rest 0 0) ≡ false
 
 pub record DirtyPreambles : Type 0 where
   -- which bytes count: AB, and AB with one of its bits turned. These are nine
@@ -62,7 +62,7 @@ pub record DirtyPreambles : Type 0 where
   pub text-kept : (p text : List ℕ) → Preamble p → stripped (p ++ (0x5A ∷ text)) ≡ 0x5A ∷ text
   -- so behind three preambles paper 01's consequence is about the texts as they came through, x, y and z, and the numbers are the
   -- lengths of the preambles
-  pub heard : (h p q s x y z out : List ℕ) (r : VoteAnswer) (left : List ℕ) → Before p x → Before q y → Before s z
+  pub gives : (h p q s x y z out : List ℕ) (r : VoteAnswer) (left : List ℕ) → Before p x → Before q y → Before s z
       → OfBytes h (p ++ x) (q ++ y) (s ++ z) → 1 ≤ length h → length h ≤ 252 → length h ≤ length out
       → length (p ++ x) ≤ 268 → length (q ++ y) ≤ 268 → length (s ++ z) ≤ 268 → votedLength x y z ≡ length h
       → ((i k : ℕ) → i < length h → k < 8 → Two (Right h i k x) (Right h i k y) (Right h i k z))
