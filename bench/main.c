@@ -197,8 +197,8 @@ struct tally {
     uint64_t numbers; /* a bit for each number met */
 };
 
-/* Takes both answers and looks at every space that was lent. */
-/* Where an answer has more than 64 bits, more says how the rest differs, and is empty where it does not. */
+/* Takes both answers and looks at every space that was lent. Where an answer has more than 64 bits, more says how the
+ * rest differs, and is empty where it does not. */
 static void judge_all(struct tally *t, uint64_t library_said, uint64_t plain_said, const char *more)
 {
     uint32_t number = same_number(plain_said);
