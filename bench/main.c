@@ -240,6 +240,15 @@ static uint32_t some_place(void)
     return part * 100000 + state * 1000 + county;
 }
 
+static uint32_t without_state(uint32_t place) { return place / 100000 * 100000 + place % 1000; }
+
+/* Six zeros and other places without a state are rare among some_place. */
+static uint32_t with_zeros(void)
+{
+    uint32_t kind = below(8), place = some_place();
+    return kind == 0 ? 0 : kind == 1 ? without_state(place) : place;
+}
+
 static uint32_t some_client(void)
 {
     static const uint32_t clients[] = {1, 2, 7, 12, 9999};
@@ -282,7 +291,9 @@ static void good_fields(uint32_t *f, uint32_t count)
         uint32_t c = 32 + below(95);
         f[SAME_SENDER + i] = c == '-' || c == '+' ? '/' : c;
     }
-    for (uint32_t i = 0; i < 31; i++) f[SAME_PLACES + i] = i < count ? some_place() : any_word();
+    for (uint32_t i = 0; i < 31; i++)
+        f[SAME_PLACES + i] = i >= count ? any_word() : one_in(12) ? without_state(some_place()) : some_place();
+    if (one_in(4)) f[SAME_PLACES + below(count)] = 0;
 }
 
 static uint32_t some_count(void)
@@ -556,7 +567,7 @@ static void compare_class(struct tally *t)
 static void compare_matches(struct tally *t)
 {
     static const uint32_t steps[] = {1, 1000, 100000, 1000000};
-    uint32_t watched = one_in(10) ? any_word() : some_place(), sent = one_in(10) ? any_word() : some_place();
+    uint32_t watched = one_in(10) ? any_word() : with_zeros(), sent = one_in(10) ? any_word() : with_zeros();
     if (one_in(3)) sent = watched + steps[below(4)] * below(12);
     judge(t, (uint64_t)library.matches(watched, sent) << 32, (uint64_t)plain.matches(watched, sent) << 32);
 }
@@ -993,6 +1004,16 @@ static void set_report_1_place(uint32_t records) { set_report(records, 1, 16); }
 static void set_report_31_places(uint32_t records) { set_report(records, 31, 16); }
 static void set_report_one_client(uint32_t records) { set_report(records, 31, 1); }
 
+/* Headers of one place, six zeros. */
+static void set_report_national(uint32_t records)
+{
+    set_report(records, 1, 1);
+    for (int i = 0; i < VARIETY; i++) {
+        bench.fields[i][SAME_PLACES] = 0;
+        plain_write(bench.fields[i], SAME_FIELD_WORDS, bench.texts[i], SAME_TEXT_BYTES);
+    }
+}
+
 static void set_page_from_items(void)
 {
     char *p = (char *)bench.in;
@@ -1054,6 +1075,7 @@ static struct row rows[] = {
     {"report, 1,024 records, 31 places", REPEAT, once_report, nothing, set_report_31_places, 1024, 0, {0}},
     {"report, 4,096 records, 31 places", REPEAT, once_report, nothing, set_report_31_places, 4096, 0, {0}},
     {"report, 4,096 of one client, 31", REPEAT, once_report, nothing, set_report_one_client, 4096, 0, {0}},
+    {"report, 4,096 of one client, 000000", REPEAT, once_report, nothing, set_report_national, 4096, 0, {0}},
     {"page, 4,096 subscriptions sorted", 1, once_page, nothing, set_page_sorted, 4096, 0, {0}},
     {"page, 4,096 subscriptions shuffled", 1, once_page, nothing, set_page_shuffled, 4096, 0, {0}},
 };

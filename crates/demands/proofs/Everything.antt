@@ -7,6 +7,7 @@ use Rattle.demands.proofs.OutsideDemands.{outside-demands}
 use Rattle.demands.proofs.Both.{both-sides}
 use Rattle.demands.proofs.Impostors.{impostors}
 use Rattle.demands.proofs.DirtyPreambles.{dirty-preambles}
+use Rattle.demands.proofs.NationalCode.{national-code}
 
 pub everything : Everything
 everything = record {
@@ -17,4 +18,5 @@ everything = record {
   both-sides = both-sides;
   impostors = impostors;
   dirty-preambles = dirty-preambles;
+  national-code = national-code (demand1 .outside-number);
 }

@@ -13,5 +13,6 @@ pub mod Demand3
 pub mod Both
 pub mod Impostors
 pub mod DirtyPreambles
+pub mod NationalCode
 pub mod Everything
 pub mod Trace

@@ -7,6 +7,7 @@ use Rattle.demands.specs.OutsideDemands.{OutsideDemands}
 use Rattle.demands.specs.Both.{BothSides}
 use Rattle.demands.specs.Impostors.{Impostors}
 use Rattle.demands.specs.DirtyPreambles.{DirtyPreambles}
+use Rattle.demands.specs.NationalCode.{NationalCode}
 
 pub record Everything : Type 0 where
   pub demand1 : Demand1
@@ -16,3 +17,4 @@ pub record Everything : Type 0 where
   pub both-sides : BothSides
   pub impostors : Impostors
   pub dirty-preambles : DirtyPreambles
+  pub national-code : NationalCode

@@ -1,7 +1,7 @@
 // Places: which match, how a book keeps one, and how many are matched fast.
 ghost use mathlib.Core.Path.{_≡_};
-ghost use Rattle.place.specs.Place.{meet};
-ghost use Rattle.place.specs.Packed.{packedMatch};
+ghost use Rattle.place.specs.Place.{meet, byParts};
+ghost use Rattle.place.specs.Packed.{packedByParts, packedMatch};
 ghost use Rattle.place.specs.Promise.{MatchesPromise, MatchesSomePromise, FirstWordPromise, PlaceOfPromise, BadPlacePromise, PackPromise, PackPlacesPromise, PackedMatchSomePromise};
 
 // Whether two counties, or two parts, are equal or either is 0.
@@ -17,9 +17,9 @@ fn meets(a: u32, b: u32) -> bool
     b == 0
 }
 
-// Whether a watched place and a place of a header match. The front PSS of PSSCCC is divided off once, for all three tests.
-pub fn matches(watched: u32, sent: u32) -> bool
-    ensures { λ r. ⌜ MatchesPromise watched sent r ⌝ }
+// Whether two places match by state, county and part. The front PSS of PSSCCC is divided off once, for all three tests.
+fn by_parts(watched: u32, sent: u32) -> bool
+    ensures { λ r. ⌜ r ≡ byParts watched sent ⌝ }
 {
     let watched_front = watched / 1000;
     let sent_front = sent / 1000;
@@ -30,6 +30,20 @@ pub fn matches(watched: u32, sent: u32) -> bool
         return false;
     }
     meets(watched_front / 100, sent_front / 100)
+}
+
+// Whether a watched place and a place of a header match. Six zeros match every place, as they mean the whole country; without a state
+// any other place matches none.
+pub fn matches(watched: u32, sent: u32) -> bool
+    ensures { λ r. ⌜ MatchesPromise watched sent r ⌝ }
+{
+    if sent == 0 {
+        return true;
+    }
+    if sent / 1000 % 100 == 0 {
+        return false;
+    }
+    by_parts(watched, sent)
 }
 
 // Whether a watched place matches at least one place of a header. One look at each, up to the first that matches.
@@ -90,9 +104,9 @@ pub fn pack_places(places: &mut [u32])
     }
 }
 
-// Whether two packed places match.
-fn packed_match(watched: u32, sent: u32) -> bool
-    ensures { λ r. ⌜ r ≡ packedMatch watched sent ⌝ }
+// Whether two packed places match by state, county and part.
+fn packed_by_parts(watched: u32, sent: u32) -> bool
+    ensures { λ r. ⌜ r ≡ packedByParts watched sent ⌝ }
 {
     if watched / 16384 != sent / 16384 {
         return false;
@@ -101,6 +115,17 @@ fn packed_match(watched: u32, sent: u32) -> bool
         return false;
     }
     meets(watched % 16, sent % 16)
+}
+
+// Whether two packed places match, by the rule of `matches`. The state is looked at first: nearly every place sent has one, and takes no
+// further test.
+fn packed_match(watched: u32, sent: u32) -> bool
+    ensures { λ r. ⌜ r ≡ packedMatch watched sent ⌝ }
+{
+    if sent / 16384 == 0 {
+        return sent == 0;
+    }
+    packed_by_parts(watched, sent)
 }
 
 // Whether a packed place matches at least one of some packed places. One look at each, up to the first that matches.

@@ -1,86 +1,33 @@
--- The front PSS of a place has its state and its part, and what it leaves of the place is the county.
-use Prim.Native.Nat.{ℕ, _*_, _-_, _/_}
+-- One law of matching for each return.
+use Prim.Native.Nat.{ℕ}
 use mathlib.Core.Path.{_≡_, sym, _∙_}
-use native.Mathlib.Omega.{arith}
+use mathlib.Core.Bool.{true}
 use borrow.Author.Needs.{needs}
-use borrow.Author.Tests.{not-true, not-false}
-use Rattle.place.specs.Place.{part, state, county, meet, matches}
-use Rattle.place.proofs.Parts.{other-state, other-county, by-part}
+use Rattle.place.specs.Place.{matches}
+use Rattle.place.proofs.Matching.{national, no-state, has-state}
 use Rattle.place.proofs.matches.Statement.{statement}
 use Rattle.place.proofs.matches.Tie as tie
 
-left-county : (place : ℕ) → place - place / 1000 * 1000 ≡ county place
-left-county place = omega arith
-
-front-part : (place : ℕ) → place / 1000 / 100 ≡ part place
-front-part place = omega arith
-
-counties : (w s : ℕ) → meet (w - w / 1000 * 1000) (s - s / 1000 * 1000) ≡ meet (county w) (county s)
-counties w s = λ i. meet (left-county w i) (left-county s i)
-
-parts : (w s : ℕ) → meet (w / 1000 / 100) (s / 1000 / 100) ≡ meet (part w) (part s)
-parts w s = λ i. meet (front-part w i) (front-part s i)
+six-zeros : (watched sent : ℕ) → sent ≡ 0 → true ≡ matches watched sent
+six-zeros w s e = rw e (sym (national w))
 
 returns : tie.Need-returns
-unfolding matches
 returns c =
-    let w = c .before .args .watched in
-    let s = c .before .args .sent in
-    record { says = other-state (state w) (state s) (county w) (county s) (part w) (part s) (c .if1 .taken) }
-
-mul-meets : tie.Need-mul-meets
-mul-meets c = search needs
-
-sub-meets : tie.Need-sub-meets
-sub-meets c = search needs
-
-mul-meets-2 : tie.Need-mul-meets-2
-mul-meets-2 c = search needs
-
-sub-meets-2 : tie.Need-sub-meets-2
-sub-meets-2 c = search needs
-
-meets-requires : tie.Need-meets-requires
-meets-requires c κs = search needs
+    let args = c .before .args in
+    record { says = six-zeros (args .watched) (args .sent) (c .if1 .taken) }
 
 returns-2 : tie.Need-returns-2
-unfolding matches
 returns-2 c =
-    let else1 = c .before .before in
-    let w = else1 .before .args .watched in
-    let s = else1 .before .args .sent in
-    let met = c .before .meets in
-    record {
-      says = other-county (state w) (state s) (county w) (county s) (part w) (part s) (else1 .if1 .left)
-          (sym (met .ensures ∙ counties w s) ∙ not-true (met .result) (c .if2 .taken));
-    }
+    let args = c .before .before .args in
+    record { says = sym (no-state (args .watched) (args .sent) (c .if2 .taken) (c .before .if1 .left)) }
 
-meets-requires-2 : tie.Need-meets-requires-2
-meets-requires-2 c κs = search needs
+by-parts-requires : tie.Need-by-parts-requires
+by-parts-requires c κs = search needs
 
 returns-3 : tie.Need-returns-3
-unfolding matches
 returns-3 c =
-    let else1 = c .before .before .before in
-    let w = else1 .before .args .watched in
-    let s = else1 .before .args .sent in
-    let met = c .before .before .meets in
-    record {
-      says = c .meets2 .ensures ∙ parts w s
-          ∙ by-part (state w) (state s) (county w) (county s) (part w) (part s) (else1 .if1 .left)
-          (sym (met .ensures ∙ counties w s) ∙ not-false (met .result) (c .before .if2 .left));
-    }
+    let args = c .before .before .before .args in
+    record { says = c .by-parts .ensures ∙ sym (has-state (args .watched) (args .sent) (c .before .if2 .left)) }
 
 pub matches-spec : {M : Type 1} → statement M
-matches-spec =
-    tie.close
-    (tie.spec
-    returns
-    mul-meets
-    sub-meets
-    mul-meets-2
-    sub-meets-2
-    meets-requires
-    returns-2
-    meets-requires-2
-    returns-3)
+matches-spec = tie.close (tie.spec returns returns-2 by-parts-requires returns-3)

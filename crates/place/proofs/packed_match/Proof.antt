@@ -1,42 +1,38 @@
--- The three tests of places, on the bits of packed ones.
-use mathlib.Core.Path.{sym, _∙_}
+-- Without a state only six zeros match; with one, the parts decide.
+use Prim.Native.Nat.{ℕ, _/_}
+use mathlib.Core.Path.{_≡_, refl, _∙_}
+use mathlib.Core.Bool.{Bool, true, false, _||_}
 use borrow.Author.Needs.{needs}
-use borrow.Author.Tests.{not-true, not-false}
-use Prim.Native.Nat.{_/_, _%_}
-use Rattle.place.specs.Packed.{packedMatch}
-use Rattle.place.proofs.Parts.{other-state, other-county, by-part}
+use borrow.Author.Tests.{eq-eqb, ne-eqb}
+use lib.Dec.{eqb}
+use Rattle.place.specs.Packed.{packedByParts, packedMatch}
 use Rattle.place.proofs.packed_match.Statement.{statement}
 use Rattle.place.proofs.packed_match.Tie as tie
 
-returns : tie.Need-returns
-unfolding packedMatch
-returns c =
-    let w = c .before .args .watched in
-    let s = c .before .args .sent in
-    other-state (w / 16384) (s / 16384) (w / 16 % 1024) (s / 16 % 1024) (w % 16) (s % 16) (c .if1 .taken)
+or-nothing : (a : Bool) → a ≡ a || false
+or-nothing true = refl
+or-nothing false = refl
 
-meets-requires : tie.Need-meets-requires
-meets-requires c κs = search needs
+without-state : (watched sent : ℕ) → sent / 16384 ≡ 0 → eqb sent 0 ≡ packedMatch watched sent
+unfolding packedMatch
+without-state w s e = rw (eq-eqb (s / 16384) 0 e) (or-nothing (eqb s 0))
+
+with-state : (watched sent : ℕ) → (sent / 16384 ≡ 0 → ⊥) → packedByParts watched sent ≡ packedMatch watched sent
+unfolding packedMatch
+with-state w s n = rw (ne-eqb s 0 (λ e. n (rw e)), ne-eqb (s / 16384) 0 n)
+
+returns : tie.Need-returns
+returns c =
+    let args = c .before .args in
+    without-state (args .watched) (args .sent) (c .if1 .taken)
+
+packed-by-parts-requires : tie.Need-packed-by-parts-requires
+packed-by-parts-requires c κs = search needs
 
 returns-2 : tie.Need-returns-2
-unfolding packedMatch
 returns-2 c =
-    let w = c .before .before .before .args .watched in
-    let s = c .before .before .before .args .sent in
-    other-county (w / 16384) (s / 16384) (w / 16 % 1024) (s / 16 % 1024) (w % 16) (s % 16) (c .before .before .if1 .left)
-    (sym (c .before .meets .ensures) ∙ not-true (c .before .meets .result) (c .if2 .taken))
-
-meets-requires-2 : tie.Need-meets-requires-2
-meets-requires-2 c κs = search needs
-
-returns-3 : tie.Need-returns-3
-unfolding packedMatch
-returns-3 c =
-    let w = c .before .before .before .before .args .watched in
-    let s = c .before .before .before .before .args .sent in
-    c .meets2 .ensures
-    ∙ by-part (w / 16384) (s / 16384) (w / 16 % 1024) (s / 16 % 1024) (w % 16) (s % 16) (c .before .before .before .if1 .left)
-    (sym (c .before .before .meets .ensures) ∙ not-false (c .before .before .meets .result) (c .before .if2 .left))
+    let args = c .before .before .args in
+    c .packed-by-parts .ensures ∙ with-state (args .watched) (args .sent) (c .before .if1 .left)
 
 pub packed-match-spec : {M : Type 1} → statement M
-packed-match-spec = tie.close (tie.spec returns meets-requires returns-2 meets-requires-2 returns-3)
+packed-match-spec = tie.close (tie.spec returns packed-by-parts-requires returns-2)
