@@ -42,7 +42,8 @@
  *
  * Places
  *   A place is a number of six digits, PSSCCC: P a part of the county (0: all of it), SS the state, CCC the county
- *   (000: the whole state). 39051 is 039051: county 051 of state 39. 139000 is part 1 of all counties of state 39.
+ *   (000: the whole state). 39051 is 039051: county 051 of state 39. 139000 is part 1 of all counties of state 39. In a
+ *   header 000000 is the whole United States. No book takes a place of state 00.
  *
  * Header texts
  *   ZCZC-ORG-EEE-PSSCCC-..-PSSCCC+TTTT-JJJHHMM-LLLLLLLL-, 42 to 252 bytes: 35, and 7 for each place.
@@ -190,10 +191,10 @@ uint32_t same_listed(uint8_t first, uint8_t second, uint8_t third);
  * S 4, and any other byte 6, small letters too. */
 uint32_t same_class(uint8_t first, uint8_t second, uint8_t third);
 
-/* 1 if the watched place matches the place sent, else 0. They match if the states are equal, the counties are equal or
- * one is 000, and the parts are equal or one is 0. Two places of state 00 may match so, though no book has one of them.
- * Any two words have an answer: of a code, the county is code % 1000, the state code / 1000 % 100 and the part
- * code / 100000, whatever that gives. */
+/* 1 if the watched place matches the place sent, else 0. 000000 sent matches every place, and any other place of state
+ * 00 sent matches none. Otherwise they match if the states are equal, the counties are equal or one is 000, and the
+ * parts are equal or one is 0. Any two words have an answer: of a code, the county is code % 1000, the state
+ * code / 1000 % 100 and the part code / 100000, whatever that gives. */
 uint32_t same_matches(uint32_t watched, uint32_t sent);
 
 /* 0 if the words are a book that keeps every rule, else 16. */

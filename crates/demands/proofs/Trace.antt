@@ -38,6 +38,7 @@ use Rattle.demands.proofs.Demand2.{demand2, voting}
 use Rattle.demands.proofs.Demand3.{nobody-else, pages, reports, the-history}
 use Rattle.demands.proofs.DirtyPreambles.{dirty-preambles}
 use Rattle.demands.proofs.Everything.{everything}
+use Rattle.demands.proofs.NationalCode.{national-code}
 use Rattle.demands.proofs.Outside.{outside-call, outside-refusal}
 use Rattle.demands.proofs.OutsideDemands.{outside-demands}
 use Rattle.event.proofs.Facts.{class-low, no-double, sixty-one}
@@ -66,8 +67,9 @@ use Rattle.page_printing.proofs.Pages.{refused-length}
 use Rattle.page_printing.proofs.Samples.{sample-page, sample-refusal}
 use Rattle.page_printing.proofs.Writing.{print-short}
 use Rattle.place.proofs.Matching.Cases.{other-part, whole-county, whole-state}
-use Rattle.place.proofs.Matching.{cases, matches-from, matches-says, matches-state, some-more, some-none}
-use Rattle.place.proofs.Packed.{packed-some}
+use Rattle.place.proofs.Matching.{amends, cases, has-state, matches-from, matches-says, matches-state, national, no-state, none-by-parts, some-more}
+use Rattle.place.proofs.Matching.{some-national, some-none, some-skipped}
+use Rattle.place.proofs.Packed.{packed-match, packed-some}
 use Rattle.place.proofs.Words.{before-word, fine, place-back, word-back, word-before, word-high, word-low}
 use Rattle.report.proofs.Exact.{nothing-hit, report-exact}
 use Rattle.report.proofs.Found.{hits-found}

@@ -119,6 +119,7 @@ pub record Events : Type 0 where
 -- ---- ".. place matching .."
 
 pub record Matching : Type 0 where
+  -- by paper 01, and where no state was sent by paper 02, §6
   pub says : (watched sent : ℕ) → matches watched sent ≡ true → Match watched sent
   pub from : (watched sent : ℕ) → Match watched sent → matches watched sent ≡ true
   -- at least one of some places

@@ -47,6 +47,9 @@ use Rattle.demands.specs.Everything.{Everything}
 use Rattle.demands.specs.Impostors.Impostors.{add-changes, after-load, no-hit, one-hit, reads-every, reads-sample, remove-changes, some-addition}
 use Rattle.demands.specs.Impostors.Impostors.{some-removal, some-vote, two-hits, two-texts}
 use Rattle.demands.specs.Malformed.{Malformed}
+use Rattle.demands.specs.NationalCode.{NationalCode, nationwide, wished}
+use Rattle.demands.specs.NationalCode.NationalCode.{report, same-report}
+use Rattle.demands.specs.NationalCode.NationalHeaders.{own-wish, wish-decides}
 use Rattle.demands.specs.Outside.{OutsideCall, OutsideNumber, OutsideRefusal}
 use Rattle.demands.specs.OutsideCalls.{CalledOutside}
 use Rattle.demands.specs.OutsideDemands.{OutsideHistory, OutsideReports, OutsideTexts, OutsideVote}
@@ -74,9 +77,12 @@ use Rattle.page.specs.Page.{pageOf, printed, shownText}
 use Rattle.page_printing.specs.Page.{ended, pageLines, pageText, refusedText}
 use Rattle.page_printing.specs.Promise.{printSays, saidPrinted}
 use Rattle.place.specs.FirstWord.{badPlace, firstWord}
-use Rattle.place.specs.Place.{county, matches, matchesSome, meet, part, state}
+use Rattle.place.specs.Meaning.{ByParts}
+use Rattle.place.specs.Meaning.Match.{by-parts, whole-country}
+use Rattle.place.specs.Packed.{packedMatch}
+use Rattle.place.specs.Place.{byParts, county, matches, matchesSome, meet, part, state}
 use Rattle.report.specs.Answers.{answerOf}
-use Rattle.report.specs.Exact.{After, Lists}
+use Rattle.report.specs.Exact.{After, Lists, wanted}
 use Rattle.report.specs.Exact.Lists.{exactly, order as report-Exact-order}
 use Rattle.report.specs.Hits.{hasClass, hitsOf, isOf, matching, pairs}
 use Rattle.report.specs.Own.{Agree}

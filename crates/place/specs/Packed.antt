@@ -15,7 +15,7 @@ packed word = word / 10000 % 100 * 16384 + word / 10 % 1000 * 16 + word % 10
 unfoldable pub packedPlace : ℕ → ℕ
 packedPlace place = packed (firstWord place)
 
--- two packed places match, by the rule of places
+-- two packed places match, by the rule of places: first by their parts, then with what was sent without a state
 abbrev pub packedByParts : ℕ → ℕ → Bool
 packedByParts watched sent =
     eqb (watched / 16384) (sent / 16384)

@@ -1,5 +1,4 @@
-// Prints the page of each input 01 to 99, behind a line `-- NN`.
-ghost use Prim.Native.Nat.{_<_};
+// Prints the page of each input 001 to 118, behind a line `-- NNN`.
 use libc::STDOUT_FILENO;
 use page_printing::Printed;
 
@@ -28,10 +27,8 @@ fn print_file(name: &[u8]) {
     libc::close(fd);
 }
 
-fn print_case(n: u8)
-    requires { ⌜ n < 100 ⌝ }
-{
-    let name = [48 + n / 10, 48 + n % 10];
+fn print_case(n: u8) {
+    let name = [48 + n / 100, 48 + n / 10 % 10, 48 + n % 10];
     io::write_all(STDOUT_FILENO, b"-- ");
     io::write_all(STDOUT_FILENO, &name);
     io::write_all(STDOUT_FILENO, b"\n");
@@ -39,7 +36,7 @@ fn print_case(n: u8)
 }
 
 fn main() {
-    for n in 1..100 {
+    for n in 1..119 {
         print_case(n);
     }
 }

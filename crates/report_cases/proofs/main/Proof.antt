@@ -1,4 +1,4 @@
--- Each case has two digits, since its number is below 100.
+-- The number goes up to 119, and then there are no more cases.
 use Prim.Native.Nat.{_≤_, _-_}
 use native.Mathlib.Omega.{arith}
 use borrow.Author.Needs.{needs}
@@ -6,10 +6,10 @@ use Rattle.report_cases.proofs.main.Statement.{statement}
 use Rattle.report_cases.proofs.main.Tie as tie
 
 abbrev Inv-loop : tie.InvT-loop
-Inv-loop n₀ n = n ≤ 100
+Inv-loop n₀ n = n ≤ 119
 
 abbrev μ-loop : tie.MeasureT-loop
-μ-loop n₀ n = 100 - n
+μ-loop n₀ n = 119 - n
 
 loop-holds : tie.Need-loop-holds Inv-loop μ-loop
 loop-holds c = omega arith
