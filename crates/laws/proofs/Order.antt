@@ -23,6 +23,7 @@ exactly {A} (r ∷ rows) last = by r.holds refl (exactly rows last)
 
 -- and the other way: what the first row that holds says is said; where no row holds, the last is said
 pub said_first : {A : Type 0} (x : A) (rows : List (Row A)) (last : A) → First x rows → in_order rows last ≡ x
+said_first {A = A} x [] last p = elim p [ ]
 said_first x (r ∷ rows) last (here h) = rw h
 said_first x (r ∷ rows) last (later h p) = rw h (said_first x rows last p)
 
@@ -68,6 +69,7 @@ module _ (p q : ℕ → Bool) where
   all_pass rows = every (λ r. passes p q r.says) rows
 
   pub passes_first : {A : Type 0} (x : Said A) (rows : List (Row (Said A))) → First x rows → all_pass rows ≡ true → passes p q x ≡ true
+  passes_first {A = A} x [] p all = elim p [ ]
   passes_first x (r ∷ rows) (here h) all = and_l (passes p q r.says) (all_pass rows) all
   passes_first x (r ∷ rows) (later h k) all = passes_first x rows k (and_r (passes p q r.says) (all_pass rows) all)
 
