@@ -1,4 +1,6 @@
 // The code on bytes and digits that the formats share. Every call takes any input.
+#![tactic(auto)]
+
 ghost use Rattle.std.specs.Prelude.{◌≡◌, ◌∷◌, []};
 ghost use Rattle.laws.specs.Numbers.{dig};
 ghost use Rattle.codec.specs.Promise.{BetweenPromise, SamePromise, DigitsAtPromise, PutPromise};
