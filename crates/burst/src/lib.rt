@@ -1,4 +1,6 @@
 // Three received bursts, stripped of their preamble and voted to one text.
+#![tactic(auto)]
+
 ghost use Rattle.std.specs.Prelude.{◌≡◌, ℕ, ◌≤◌, ◌<◌, min, max, length};
 ghost use Rattle.laws.specs.Space.{pasted};
 ghost use Rattle.burst.specs.Strip.{preamble};

@@ -1,13 +1,13 @@
 -- The search in the list of codes, and the class of what it finds.
 use mathlib.Core.Path.{◌≡◌, refl, sym, ap, ◌∙◌}
-use mathlib.Core.Bool.{Bool, true, false, and-true}
+use mathlib.Core.Bool.{true, false, and-true}
 use mathlib.Core.List.{List, [], ◌∷◌}
 use Prim.Native.Nat.{ℕ, ◌+◌, ◌≤◌, ◌<◌}
 use native.Mathlib.Omega.{arith}
 use borrow.Author.Tests.{lt-ltb, eqb-true}
 use lib.Dec.{eqb}
 use lib.ListN.{length, get_or, drop}
-use Rattle.laws.specs.Lists.{same, some, every}
+use Rattle.laws.specs.Lists.{same, some}
 use Rattle.laws.specs.Text.{ascii}
 use Rattle.laws.proofs.Every.{same_eq}
 use Rattle.laws.proofs.Rows.{every_at, some_here, some_next, some_map}

@@ -1,4 +1,6 @@
 // The list of event codes, and the class of a code.
+#![tactic(auto)]
+
 ghost use Rattle.std.specs.Prelude.{◌≡◌, ◌&&◌, ◌<◌, [], eqb, get_or};
 ghost use Rattle.event.specs.Events.{code};
 ghost use Rattle.event.specs.Class.{by_third, class_of};

@@ -1,4 +1,6 @@
 // What a header says, and which values each of its fields allows. Crate `header_reading` reads its text, crate `header_writing` writes it.
+#![tactic(auto)]
+
 ghost use Rattle.std.specs.Prelude.{◌≡◌};
 ghost use Rattle.header.specs.Header.{is_sender_byte};
 ghost use Rattle.header.specs.Promise.{IsOriginPromise, IsEventPromise, IsSenderPromise, IsDurationOfPromise, IsIssuePromise, IsDurationPromise};

@@ -1,5 +1,4 @@
 -- Only what is granted goes on to the next step, so steps can be grouped either way.
-use Prim.Native.Nat.{ℕ}
 use mathlib.Core.Path.{◌≡◌, refl}
 use Rattle.laws.specs.Order.{Said, granted, refused, refused_at, next}
 use Rattle.laws.proofs.Clash.{clash}

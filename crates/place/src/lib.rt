@@ -1,4 +1,6 @@
 // Places: which match, how a book keeps one, and how many are matched fast.
+#![tactic(auto)]
+
 ghost use Rattle.std.specs.Prelude.{◌≡◌};
 ghost use Rattle.place.specs.Place.{meet, match_by_parts};
 ghost use Rattle.place.specs.Packed.{packed_by_parts, packed_match};
