@@ -7,7 +7,7 @@ pub returns-then-k-n : goal.returns-then-k-n
 returns-then-k-n c =
     let a = c.args in
     let k = c.first_difference-k in
-    agree_3 a.s.now a.p.now a.q.now a.n a.out-1.now k.result k.ensures (omega arith)
+    agree_3 a.s.now a.p.now a.q.now a.n a.out.now k.result k.ensures (omega arith)
 
 pub returns : goal.returns
 returns c =
@@ -15,5 +15,5 @@ returns c =
     let k = c.first_difference-k in
     let v = c.write_voted in
     let r = c.write_rest in
-    agree_text a.s.now a.p.now a.q.now a.n a.out-1.now k.result k.ensures
-    v.new.1.1.1.1.0 r.new.1.1.1.0 (omega arith) c.requires.0 c.requires.1 c.requires.3 v.ensures r.ensures
+    agree_text a.s.now a.p.now a.q.now a.n a.out.now k.result k.ensures
+    v.new.out r.new.out (omega arith) c.requires.0 c.requires.1 c.requires.3 v.ensures r.ensures

@@ -9,17 +9,17 @@ use Rattle.burst.proofs.Agreed.{vote_1, vote_on}
 use Rattle.burst.proofs.vote.Goals as goal
 
 -- what is dropped lies within the burst
-fits_a : (c : goal.Else-too_long) → c.leading-first.result ≤ length c.before.args.a.now
+fits_a : (c : goal.Else-too_long) → c.leading-first.result ≤ length c.args.a.now
 fits_a c = lead_fits _ _ c.leading-first.ensures.says
 
-fits_b : (c : goal.After-decide-arg-1) → c.leading-second.result ≤ length c.before.before.args.b.now
+fits_b : (c : goal.After-decide-arg-1) → c.leading-second.result ≤ length c.args.b.now
 fits_b c = lead_fits _ _ c.leading-second.ensures.says
 
-fits_c : (c : goal.After-decide-arg-2-1) → c.leading-third.result ≤ length c.before.before.before.args.c.now
+fits_c : (c : goal.After-decide-arg-2-1) → c.leading-third.result ≤ length c.args.c.now
 fits_c c = lead_fits _ _ c.leading-third.ensures.says
 
 -- no burst is too long
-short : (c : goal.After-slice_known-2-1) → let a = c.before.before.before.before.before.args in too_long a.a.now a.b.now a.c.now ≡ false
+short : (c : goal.After-slice_known-2-1) → let a = c.args in too_long a.a.now a.b.now a.c.now ≡ false
 short c = sym c.too_long.ensures ∙ c.if-too_long.false
 
 pub returns-then-too_long : goal.returns-then-too_long
@@ -30,20 +30,27 @@ returns-then-too_long c =
 pub slice_bounds-decide-count : goal.slice_bounds-decide-count
 slice_bounds-decide-count c = fits_a c
 
+pub slice_bounds-decide-start : goal.slice_bounds-decide-start
+slice_bounds-decide-start c = fits_a c
+
 pub slice_bounds-decide-count-2 : goal.slice_bounds-decide-count-2
 slice_bounds-decide-count-2 c = fits_b c
+
+pub slice_bounds-decide-start-2 : goal.slice_bounds-decide-start-2
+slice_bounds-decide-start-2 c = fits_b c
 
 pub slice_bounds-decide-count-3 : goal.slice_bounds-decide-count-3
 slice_bounds-decide-count-3 c = fits_c c
 
+pub slice_bounds-decide-start-3 : goal.slice_bounds-decide-start-3
+slice_bounds-decide-start-3 c = fits_c c
+
 pub returns : goal.returns
 returns c =
-    let parts = c.before.before.before.before in
-    let asked = parts.before.before.before in
-    let x = asked.leading-first.ensures.says in
-    let y = asked.leading-second.ensures.says in
-    let z = asked.leading-third.ensures.says in
+    let x = c.leading-first.ensures.says in
+    let y = c.leading-second.ensures.says in
+    let z = c.leading-third.ensures.says in
     let d = c.decide-voted in
-    vote_on _ _ _ _ _ _ _ x y z d.result d.new.1.1.1.0
-    (short asked)
+    vote_on _ _ _ _ _ _ _ x y z d.result d.new.out
+    (short c)
     (rw (← stripped_is _ _ x, ← stripped_is _ _ y, ← stripped_is _ _ z) d.ensures)
