@@ -1,4 +1,6 @@
 // The clock, the calendar, and when a header was issued, runs out and is live.
+#![tactic(auto)]
+
 ghost use Rattle.std.specs.Prelude.{◌≡◌, true, ◌<◌, ◌≤◌};
 ghost use Rattle.clock.specs.Clock.{has_day, is_clock};
 ghost use Rattle.clock.specs.Lifetime.{year_of, minute_of, phase_of, time_in, stamp_of, times_of};
@@ -12,7 +14,7 @@ mod calendar;
 mod table;
 
 // The service's clock; also any day, hour and minute of a year.
-#[derive(Drop)]
+#[derive(Clone, Copy)]
 pub struct Clock {
     pub year: u32,
     pub day: u32,

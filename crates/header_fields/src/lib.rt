@@ -1,4 +1,6 @@
 // One field of a header text and the mark behind it, at index at of the text.
+#![tactic(auto)]
+
 ghost use Rattle.header.specs.Header.{start, origin, event, sender};
 ghost use Rattle.header_fields.specs.Promise.{StandsPromise, PlaceAtPromise, MinutesAtPromise, IssueAtPromise};
 

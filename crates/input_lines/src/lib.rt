@@ -1,4 +1,6 @@
 // The lines of the report program's input: what the next line of a text says, by each of the four forms.
+#![tactic(auto)]
+
 ghost use Rattle.std.specs.Prelude.{◌≡◌, ◌+◌, ◌≤◌, length, drop};
 ghost use Rattle.input_lines.specs.Forms.{now_line, client_line, sub_line};
 ghost use Rattle.input_lines.specs.Answers.{said_now, said_client, said_sub};

@@ -1,6 +1,5 @@
 -- At the loop's head all bytes before index i count; the first that does not, the 17th or the end settles the number.
 use mathlib.Core.Path.{sym, ◌∙◌}
-use Prim.Native.Nat.{◌-◌}
 use native.Mathlib.Omega.{arith}
 use Rattle.burst.proofs.Stripped.{begun, passed, failed, ended}
 use Rattle.burst.proofs.leading.Goals as goal
