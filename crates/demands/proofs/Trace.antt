@@ -47,7 +47,7 @@ use Rattle.header.proofs.Allowed.{duration_ok, issue_ok}
 use Rattle.header.proofs.Callers.{duration_bounds}
 use Rattle.header.proofs.Cases.{d0000, d0115, d0130, d9930, none_more, one_more, sample_long, sample_reads, too_long}
 use Rattle.header.proofs.Exact.{form_no_room, read_write, write_exactly, write_read, write_read_same}
-use Rattle.header.proofs.NoChoice.{said_one as header-NoChoice-said-one, wrote_one}
+use Rattle.header.proofs.NoChoice.{said_one as header_NoChoice_said_one, wrote_one}
 use Rattle.header.proofs.Round.{duration_law, event_law, header_law, issue_law, origin_law, place_law, places_law, read_form, reads_exactly, sender_law}
 use Rattle.header.proofs.Round.{start_law, text_length}
 use Rattle.header.proofs.Stopping.{read_stops, stops_read, stops_table, table_stops}
@@ -61,7 +61,7 @@ use Rattle.laws.proofs.Pasted.{pasted_length}
 use Rattle.laws.proofs.Tables.{tabled}
 use Rattle.page.proofs.Cut.{page_cut}
 use Rattle.page.proofs.Own.{page_own_only}
-use Rattle.page.proofs.Room.{page_printed, page_in_room}
+use Rattle.page.proofs.Room.{page_in_room, page_printed}
 use Rattle.page_printing.proofs.Hits.{hits_count}
 use Rattle.page_printing.proofs.Pages.{refused_length}
 use Rattle.page_printing.proofs.Samples.{sample_page, sample_refusal}
@@ -73,8 +73,8 @@ use Rattle.place.proofs.Packed.{packed_match_is, packed_some}
 use Rattle.place.proofs.Words.{before_word, fine, place_back, word_back, word_before, word_high, word_low}
 use Rattle.report.proofs.Exact.{nothing_hit, report_exact}
 use Rattle.report.proofs.Found.{hits_found}
-use Rattle.report.proofs.Given.{given as report-Given-given}
+use Rattle.report.proofs.Given.{given as report_Given_given}
 use Rattle.report.proofs.Kept.{place_order}
 use Rattle.report.proofs.Own.{own_only}
 use Rattle.report.proofs.Spans.{length_pairs}
-use Rattle.same.proofs.NoChoice.{vote_no_choice as same-NoChoice-vote-no-choice}
+use Rattle.same.proofs.NoChoice.{vote_no_choice as same_NoChoice_vote_no_choice}
