@@ -7,10 +7,10 @@
  *   if (same_number(said) == 0) ..same_size_or_index(said) hits..
  *
  * Linking
- *   In the repository that this file is from, `rt staticlib same` makes target/staticlib/libsame.a for x86-64 Linux; it
- *   may go into a shared object. tools/same-here makes the library for the machine that it runs on. The library takes
- *   memcpy and memset from the C library, and nothing else. It keeps nothing between calls and allocates nothing: calls
- *   may run at the same time if none of them writes what another is lent.
+ *   In the repository that this file is from, tools/same-here makes the archive for x86-64 Linux and prints where it is;
+ *   it may go into a shared object. `tools/same-here --for aarch64` makes it for Arm. The library takes memcpy and memset
+ *   from the C library, and nothing else. It keeps nothing between calls and allocates nothing: calls may run at the same
+ *   time if none of them writes what another is lent.
  *
  * Answers
  *   An answer of 64 bits has the number in its low half and a length, count or index in its high half.
