@@ -56,6 +56,7 @@ no_line f l (inr h) = simp (lt-leb (length l) 300 h)
 module _ {A B : Type 0} (f : LineForm A) (rest : A → List (List ℕ) → Said B) where
   one_none : (ls : List (List ℕ)) → NoLine f ls → one_line f ls rest ≡ refused 23
   unfolding one_line
+  one_none [] p = elim p [ ]
   one_none (l ∷ (m ∷ ls)) (no_form b) = simp (no_line f l b)
   one_none (l ∷ []) missing = refl
 
@@ -80,17 +81,20 @@ module _ {A B : Type 0} (f : LineForm A) (rest : A → List (List ℕ) → Said 
       by false q r = inl (no_form (bad_line f l q))
 
 no_line_some : {A : Type 0} {f : LineForm A} (ls : List (List ℕ)) → NoLine f ls → 0 < length ls
+no_line_some {A = A} {f = f} [] p = elim p [ ]
 no_line_some (l ∷ (m ∷ ls)) (no_form b) = omega arith
 no_line_some (l ∷ []) missing = omega arith
 
 -- ---- `sub=` lines
 
 no_sub_some : (ls : List (List ℕ)) → NoSub ls → 0 < length ls
+no_sub_some [] p = elim p [ ]
 no_sub_some (l ∷ (m ∷ ls)) (no_sub b) = omega arith
 no_sub_some (l ∷ []) (no_end h) = omega arith
 
 each_none : (w : List ℕ) (ls : List (List ℕ)) → NoSub ls → each_line sub_line adds_line w ls ≡ refused 23
 unfolding each_line
+each_none w [] p = elim p [ ]
 each_none w (l ∷ (m ∷ ls)) (no_sub b) = simp (no_line sub_line l b)
 each_none w (l ∷ []) (no_end h) = simp (ne_eqb (length l) 0 (λ e. omega arith))
 
