@@ -7,7 +7,7 @@ use Rattle.laws.specs.Order.{Said, granted, refused, refused_at, passes}
 use Rattle.laws.proofs.Order.{no_number, passes_rows, passes_next, passes_more}
 use Rattle.laws.proofs.Tests.{impossible}
 use Rattle.book_rules.specs.Form.{form}
-use Rattle.book_rules.specs.Rules.{good, empty}
+use Rattle.book_rules.specs.Rules.{empty}
 use Rattle.book_rules.specs.Subscription.{Sub}
 use Rattle.book_rules.specs.Load.{items, load_says}
 use Rattle.book_rules.specs.Afresh.{subs, Afresh}

@@ -1,6 +1,6 @@
 -- The program's numbers: no call below gives 23, and a line that is not of its form gives nothing else.
 use Prim.Native.Nat.{ℕ, ◌≤◌, ◌<◌}
-use mathlib.Core.Path.{◌≡◌, refl, sym, ap, ◌∙◌, subst}
+use mathlib.Core.Path.{◌≡◌, refl, sym, ap, ◌∙◌}
 use mathlib.Core.Logic.{◌⊎◌, inl, inr, ⊎_elim}
 use mathlib.Core.Bool.{Bool, true, false, ◌&&◌, ◌||◌, not}
 use mathlib.Core.List.{List, [], ◌∷◌, ◌++◌, map}
@@ -29,7 +29,7 @@ use Rattle.page_printing.specs.Page.{ended, page_lines, page_text, refused_text}
 use Rattle.page.specs.Input.{clock_of, adds_line, hit_room, Shown, report_shows, lines_say, input_says}
 use Rattle.page.specs.Page.{shown_text, printed, page_of}
 use Rattle.page.proofs.Room.{page_printed}
-use Rattle.demands.specs.Forms.{is_number, numbered}
+use Rattle.demands.specs.Forms.{is_number}
 use Rattle.demands.specs.Malformed.{Bad, NoLine, no_form, missing, NoSub, no_sub, no_end, Malformed, at_now, at_client, at_header, at_sub}
 use Rattle.demands.specs.Program.{PageIs, shows, refuses, ProgramNumbers}
 use Rattle.demands.proofs.Numbered.{is_low, low_number}
