@@ -1,4 +1,6 @@
 // Whether 8,293 words are a good book: words 0 to 100 are counts, then come 4,096 records of two words.
+#![tactic(auto)]
+
 ghost use Rattle.std.specs.Prelude.{◌≡◌, true, false, ◌&&◌, ◌||◌, ℕ, ◌+◌, ◌-◌, ◌*◌, ◌/◌, ◌<◌, ◌≤◌, eqb, ltb, leb, length, get_or};
 ghost use Rattle.laws.specs.Lists.{table};
 ghost use Rattle.book_rules.specs.Form.{form};

@@ -12,7 +12,7 @@ use Rattle.book_rules.specs.Form.{Form}
 use Rattle.book_rules.specs.Edits.{add_rows, add_says, added}
 use Rattle.book_rules.specs.Subscription.{Sub}
 use Rattle.book_rules.specs.Load.{add_all}
-use Rattle.book_rules.specs.History.{Edit, answer, edited, after, number}
+use Rattle.book_rules.specs.History.{Edit, answer, edited, after}
 use Rattle.book_history.specs.Adding.{addition, additions, AllGranted, none, more, FirstRefused, here, later}
 
 -- ---- an addition is granted or has a number
@@ -39,6 +39,7 @@ module _ (f : Form) where
 
   pub first_refused : (n : ℕ) (list : List Sub) (w : List ℕ) → FirstRefused f n w (additions list) → add_all f w list ≡ refused n
   unfolding add_all answer
+  first_refused n [] w p = elim p [ ]
   first_refused n (x ∷ list) w (here e) = rw e
   first_refused n (x ∷ list) w (later e k) =
       let b : edited f w (addition x) ≡ added f x.place x.client x.wish w = granted_edit w x e in

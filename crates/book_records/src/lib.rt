@@ -1,4 +1,6 @@
 // The words of a record: its place's first word, and a second word of client and wish. Every function takes any words.
+#![tactic(auto)]
+
 ghost use Rattle.std.specs.Prelude.{◌≡◌, ℕ, ◌+◌, ◌*◌};
 ghost use Rattle.book_rules.specs.Form.{form};
 ghost use Rattle.book_rules.specs.Rules.{ok_rec};

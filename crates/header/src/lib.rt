@@ -7,7 +7,7 @@ ghost use Rattle.header.specs.Promise.{IsOriginPromise, IsEventPromise, IsSender
 
 // The fields of a header: `count` of the places stand, and the rest are 0. The duration is in minutes. Numbers come before bytes,
 // so that no gap stands between two fields and a copy is one piece.
-#[derive(Drop)]
+#[derive(Clone, Copy)]
 pub struct Fields {
     pub places: [u32; 31],
     pub duration: u32,

@@ -1,4 +1,6 @@
 // Reads a header text: one pass over the text, and nothing is copied but the fields.
+#![tactic(auto)]
+
 ghost use Rattle.std.specs.Prelude.{◌≡◌, ℕ, ◌+◌, ◌≤◌, length, take, drop, replicate};
 ghost use Rattle.header.specs.Promise.{ReadPromise};
 ghost use Rattle.header_reading.specs.Steps.{PlacesAt, DurationAndIssueAt, FrontOf, no_answer};

@@ -1,4 +1,6 @@
 // Writes a header text.
+#![tactic(auto)]
+
 ghost use Rattle.std.specs.Prelude.{◌≡◌, ◌+◌, ◌*◌, ◌≤◌, ◌∷◌, [], ◌++◌, length, take};
 ghost use Rattle.laws.specs.Numbers.{dig};
 ghost use Rattle.laws.specs.Space.{pasted};
