@@ -1,4 +1,6 @@
 // Answers for callers outside: what a call says as one number of 64 bits.
+#![tactic(auto)]
+
 ghost use Rattle.std.specs.Prelude.{◌≡◌};
 ghost use Rattle.c_answers.specs.Promise.{CapPromise, AnswerPromise, VotedPromise, EditedPromise, PrintedPromise, WrotePromise, YesPromise};
 

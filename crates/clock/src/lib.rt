@@ -22,14 +22,14 @@ pub struct Clock {
     pub minute: u32,
 }
 
-#[derive(Drop)]
+#[derive(Clone, Copy)]
 pub struct MonthDay {
     pub month: u32,
     pub day: u32,
 }
 
 // Month and day, hour and minute.
-#[derive(Drop)]
+#[derive(Clone, Copy)]
 pub struct Stamp {
     pub month: u32,
     pub day: u32,
@@ -37,7 +37,7 @@ pub struct Stamp {
     pub minute: u32,
 }
 
-#[derive(Drop)]
+#[derive(Clone, Copy)]
 pub enum Phase {
     Early,
     Live,
@@ -45,32 +45,32 @@ pub enum Phase {
 }
 
 // When a header was issued and runs out, and what it is now.
-#[derive(Drop)]
+#[derive(Clone, Copy)]
 pub struct Times {
     pub issued: Stamp,
     pub until: Stamp,
     pub phase: Phase,
 }
 
-#[derive(Drop)]
+#[derive(Clone, Copy)]
 pub enum Checked {
     Good,
     Bad(u32),
 }
 
-#[derive(Drop)]
+#[derive(Clone, Copy)]
 pub enum Date {
     On(MonthDay),
     NoDate(u32),
 }
 
-#[derive(Drop)]
+#[derive(Clone, Copy)]
 pub enum Life {
     Is(Phase),
     NoLife(u32),
 }
 
-#[derive(Drop)]
+#[derive(Clone, Copy)]
 pub enum Timed {
     Are(Times),
     NoTimes(u32),

@@ -1,5 +1,7 @@
 // The lines of a printed page, one at a time: each call puts its text at index at, whole or not at all, and answers whether there is
 // room for it. It asks that first, so what its parts answer is known.
+#![tactic(auto)]
+
 ghost use Rattle.std.specs.Prelude.{◌≡◌, ◌∷◌, [], ◌++◌, ◌+◌, ◌≤◌, leb, length};
 ghost use Rattle.laws.specs.Numbers.{dig};
 ghost use Rattle.laws.specs.Space.{pasted};

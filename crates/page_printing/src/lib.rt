@@ -1,5 +1,7 @@
 // What the report program prints: a report's page, or a refusal's one line. Every byte is written once, and how long a text is
 // is known by arithmetic before the first is.
+#![tactic(auto)]
+
 ghost use Rattle.std.specs.Prelude.{◌≡◌, ◌∷◌, [], ◌+◌, ◌≤◌, leb, length};
 ghost use Rattle.laws.specs.Space.{pasted};
 ghost use Rattle.page_lines.specs.Lines.{text_line};

@@ -1,4 +1,6 @@
 // One client's report over a book, a header text and a clock.
+#![tactic(auto)]
+
 ghost use Rattle.std.specs.Prelude.{◌≡◌, true, not, ltb, eqb, ◌+◌, ◌-◌, ◌*◌, ◌<◌, ◌≤◌, length, [], ◌∷◌};
 ghost use Rattle.laws.specs.Lists.{tally, one};
 ghost use Rattle.header.specs.Answers.{alert_in};
@@ -14,7 +16,7 @@ use refusals::{refusal, refusal_at};
 mod refusals;
 
 // What a report says of the text.
-#[derive(Drop)]
+#[derive(Clone, Copy)]
 pub struct Summary {
     pub times: clock::Times,
     pub event: [u8; 3],
@@ -23,7 +25,7 @@ pub struct Summary {
     pub hits: usize,
 }
 
-#[derive(Drop)]
+#[derive(Clone, Copy)]
 pub enum ReportVerdict {
     Granted,
     Refused(u32),
@@ -31,7 +33,7 @@ pub enum ReportVerdict {
 }
 
 // The summary of a refusal is all zeros.
-#[derive(Drop)]
+#[derive(Clone, Copy)]
 pub struct ReportAnswer {
     pub verdict: ReportVerdict,
     pub summary: Summary,
@@ -53,7 +55,7 @@ fn has_class(wish: u32, class: u32) -> bool
 }
 
 // Whose records a report lists, and the class of the alert.
-#[derive(Drop)]
+#[derive(Clone, Copy)]
 struct Wanted {
     client: u32,
     class: u32,
@@ -136,7 +138,7 @@ fn write_hits(
 }
 
 // The hits of a report: how many were written, or too little room.
-#[derive(Drop)]
+#[derive(Clone, Copy)]
 enum HitList {
     All(usize),
     Short,

@@ -1,0 +1,10 @@
+-- The number, beside the summary of zeros.
+use mathlib.Core.Path.{ap}
+use Rattle.report.specs.Answers.{answer_of}
+use Rattle.report.specs.declared.Summary.{Summary}
+use Rattle.report.specs.declared.ReportVerdict.TheVariants.{Refused}
+use Rattle.report.proofs.refusals.refusal.Goals as goal
+
+pub returns : goal.returns
+unfolding answer_of
+returns c = ap (λ (s : Summary). record { verdict = Refused c.args.n; summary = s }) c.no_summary.ensures
