@@ -9,6 +9,11 @@ abbrev pub after_read : ℕ → ℤ → Input
 after_read n (pos k) = choose (eqb k 0) (Whole n) (More k)
 after_read n (negsuc k) = Failed
 
+-- a read that did not fail brings no more bytes than the space has
+abbrev pub Brings : ℕ → ℤ → Type 0
+Brings room (pos k) = k ≤ room
+Brings room (negsuc k) = Unit {0}
+
 -- an input that was read whole lies within the space
 abbrev pub Within : ℕ → Input → Type 0
 Within room (More k) = Unit {0}
