@@ -1,4 +1,6 @@
 // Fields and summaries as words, for callers outside: reading, writing and reporting over lists of numbers.
+#![tactic(auto)]
+
 ghost use Rattle.std.specs.Prelude.{◌≡◌, ◌+◌, ◌≤◌, length};
 ghost use Rattle.laws.specs.Space.{pasted};
 ghost use Rattle.report.specs.Report.{report_says};

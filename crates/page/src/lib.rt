@@ -1,4 +1,6 @@
 // The report program as a function on bytes: an input's lines to the printed page.
+#![tactic(auto)]
+
 ghost use Rattle.std.specs.Prelude.{◌≡◌, ◌+◌, ◌*◌, ◌≤◌, ◌∷◌, [], length, take, drop};
 ghost use Rattle.laws.specs.Space.{pasted};
 ghost use Rattle.input_lines.specs.Lines.{pieces};

@@ -1,5 +1,7 @@
 // SAME headers, votes, subscriptions and reports for C and its neighbours. Each call is thin: it hands on what a crate below says,
 // as numbers.
+#![tactic(auto)]
+
 ghost use Rattle.std.specs.Prelude.{◌≡◌};
 ghost use Rattle.c_words.specs.Promise.{ReadWordsPromise, WriteWordsPromise, ReportWordsPromise};
 ghost use Rattle.same.specs.Promise.{SameStripPromise, SameVotePromise, SameListedPromise, SameClassPromise, SameMatchesPromise, SameGoodPromise, SameAddPromise, SameRemovePromise, SameLoadPromise, SamePagePromise};
