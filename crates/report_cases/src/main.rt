@@ -28,12 +28,13 @@ fn print_page<A: Allocator, R: Read + Drop, W: Write>(
 
 // The page of the file with this name. An input that is missing must not pass for an empty one.
 fn print_file<R: Files + Alloc, W: Write>(rt: &R, out: &mut W, name: &[u8]) -> io::Result<()> {
-    match str::from_utf8(name) {
-        Ok(name) => match fs::open(rt, name) {
-            Ok(file) => print_page(rt.alloc(), file, out),
-            Err(_) => out.write_all(b"no such input\n"),
-        },
-        Err(_) => out.write_all(b"no such input\n"),
+    let file = match str::from_utf8(name) {
+        Ok(path) => fs::open(rt, path).ok(),
+        Err(_) => None,
+    };
+    match file {
+        Some(file) => print_page(rt.alloc(), file, out),
+        None => out.write_all(b"no such input\n"),
     }
 }
 
