@@ -3,8 +3,10 @@
 // bytes, so neither space is ever too small.
 #![tactic(auto)]
 
-ghost use Rattle.std.specs.Prelude.{◌≡◌, length};
-ghost use Rattle.report_program.specs.Reading.{after_read, Brings, Within};
+ghost use Rattle.std.specs.Prelude.{◌≡◌, length, IsTrue};
+ghost use Rattle.std.specs.Io.KnownBytes.{Appends};
+ghost use Rattle.page.specs.Page.{page_of};
+ghost use Rattle.report_program.specs.Reading.{after_read, Brings, BringsBytes, Within, Holds};
 
 use page_printing::Printed;
 use std::io::{Read, Write};
@@ -33,7 +35,8 @@ fn took(n: usize, got: isize) -> Input
 
 // One read into a space: how many bytes it brought, or -1 where it failed.
 fn read_once<R: Read>(input: &mut R, space: &mut [u8]) -> isize
-    ensures { Brings (length space.new) result }
+    ensures count { Brings (length space.new) result }
+    ensures bytes { BringsBytes (R.remaining input.old) (R.remaining input.new) space.new result }
 {
     match input.read(space) {
         Ok(k) => k as isize,
@@ -43,7 +46,8 @@ fn read_once<R: Read>(input: &mut R, space: &mut [u8]) -> isize
 
 // Reads an input until it ends or the space is full, or until a read fails.
 fn read_input<R: Read>(input: &mut R, space: &mut [u8]) -> Input
-    ensures { Within (length space.new) result }
+    ensures within { Within (length space.new) result }
+    ensures holds { Holds (R.remaining input.old) space.new result }
 {
     let mut n: usize = 0;
     while n < space.len() {
@@ -57,7 +61,9 @@ fn read_input<R: Read>(input: &mut R, space: &mut [u8]) -> Input
 }
 
 // Writes an input's page; says whether all of it was written.
-fn write_page<W: Write>(out: &mut W, input: &[u8]) -> bool {
+fn write_page<W: Write>(out: &mut W, input: &[u8]) -> bool
+    ensures { IsTrue result → Appends (W.contents out.old) (W.contents out.new) (page_of input.now) }
+{
     let mut space = [0u8; 57446];
     let answer = page::page(input, &mut space);
     let Printed::Bytes(n) = answer else {
