@@ -1,6 +1,5 @@
 -- One addition to the empty book and its removal, worked out: what meets the promise neither refuses every edit nor only pretends.
 use Prim.Native.Nat.{ℕ}
-use mathlib.Core.Bool.{true}
 use mathlib.Core.List.{List, [], ◌∷◌}
 use mathlib.Core.Path.{◌≡◌, refl, sym, ap, ◌∙◌}
 use native.Mathlib.Omega.{arith}
@@ -10,7 +9,7 @@ use Rattle.laws.specs.Space.{leaves}
 use Rattle.laws.specs.Lists.{keep}
 use Rattle.place.specs.FirstWord.{first_word, bad_place}
 use Rattle.book_rules.specs.Form.{form, client_and_wish, bad_client, bad_wish}
-use Rattle.book_rules.specs.Rules.{Rec, recs, good, empty, layout}
+use Rattle.book_rules.specs.Rules.{Rec, recs, empty, layout}
 use Rattle.book_rules.specs.Edits.{rec_of, stands, add_says, insert, added, remove_says, without, removed}
 use Rattle.book_rules.proofs.Form.{form_laws}
 use Rattle.book_rules.proofs.Pairs.{insert_nil}

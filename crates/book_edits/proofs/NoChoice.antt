@@ -1,6 +1,6 @@
 -- What is said tells the answer, and the promise says what is said and what is left; a refusal leaves the book as it was.
 use Prim.Native.Nat.{ℕ}
-use mathlib.Core.Bool.{Bool, true}
+use mathlib.Core.Bool.{true}
 use mathlib.Core.List.{List}
 use mathlib.Core.Path.{◌≡◌, refl, sym, ap, ◌∙◌}
 use Rattle.laws.specs.Order.{Said, granted, refused, refused_at, next, is_refusal}

@@ -2,19 +2,17 @@
 use Prim.Native.Nat.{ℕ, ◌+◌, ◌*◌, ◌≤◌, ◌<◌}
 use mathlib.Core.Path.{◌≡◌, refl, sym, ap, ◌∙◌, subst}
 use mathlib.Core.Bool.{Bool, true, false}
-use mathlib.Core.List.{List, [], ◌∷◌, ◌++◌}
+use mathlib.Core.List.{List, ◌++◌}
 use native.Mathlib.Omega.{arith}
 use lib.ListN.{length, length-append}
 use lib.Dec.{ltb}
 use borrow.Author.Tests.{lt-ltb, le-ltb}
-use Rattle.laws.specs.Order.{Said, granted, refused, refused_at, choose, next}
+use Rattle.laws.specs.Order.{granted, refused, refused_at, choose, next}
 use Rattle.laws.specs.Space.{pasted, leaves}
 use Rattle.laws.proofs.Pasted.{glue}
 use Rattle.header.specs.Header.{Alert}
 use Rattle.header.specs.Reading.{read_says}
-use Rattle.header.specs.Answers.{fields_of, alert_in, said_wrote}
-use Rattle.header.specs.Header.{text_of}
-use Rattle.header.specs.Writing.{write_says}
+use Rattle.header.specs.Answers.{fields_of, said_wrote}
 use Rattle.header.specs.Promise.{WritePromise}
 use Rattle.header.specs.declared.Wrote.{Wrote}
 use Rattle.header.specs.declared.Fields.{Fields}
@@ -22,8 +20,8 @@ use Rattle.header.specs.declared.ReadAnswer.{ReadAnswer}
 use Rattle.header.proofs.Callers.{IsRead}
 use Rattle.c_answers.specs.Answer.{half, capped, in_halves}
 use Rattle.c_words.specs.Words.{fields_in, numbers_of, front_words, back_words, words_of}
-use Rattle.c_words.specs.Says.{fields_say, how_many, text_says}
-use Rattle.c_words.specs.Steps.{Gives, given_says}
+use Rattle.c_words.specs.Says.{fields_say, text_says}
+use Rattle.c_words.specs.Steps.{Gives}
 use Rattle.c_words.specs.Promise.{ReadWordsPromise, WriteWordsPromise}
 use Rattle.c_answers.proofs.Packs.{packs_granted, packs_refused}
 

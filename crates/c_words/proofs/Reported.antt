@@ -1,8 +1,8 @@
 -- A report handed on: by its answer, and by the space that was lent for its summary.
-use Prim.Native.Nat.{ℕ, ◌+◌, ◌*◌, ◌≤◌, ◌<◌}
+use Prim.Native.Nat.{ℕ, ◌*◌, ◌≤◌, ◌<◌}
 use mathlib.Core.Path.{◌≡◌, refl, sym, ap, ◌∙◌, subst}
 use mathlib.Core.Bool.{Bool, true, false, not}
-use mathlib.Core.List.{List, [], ◌∷◌, ◌++◌}
+use mathlib.Core.List.{List}
 use lib.ListN.{length}
 use lib.Dec.{ltb}
 use borrow.Author.Tests.{lt-ltb, le-ltb}
@@ -20,11 +20,10 @@ use Rattle.book_rules.specs.Rules.{good}
 use Rattle.book_rules.specs.Subscription.{Sub}
 use Rattle.book_rules.specs.Afresh.{subs}
 use Rattle.report.specs.Hits.{hits_of}
-use Rattle.report.specs.Report.{Full, summary_of, alert_says, list_says, report_says}
+use Rattle.report.specs.Report.{Full, alert_says, list_says, report_says}
 use Rattle.report.specs.Answers.{verdict_of, summary_in}
 use Rattle.report.specs.Promise.{writes_hits}
 use Rattle.report.specs.declared.Summary.{Summary}
-use Rattle.report.specs.declared.ReportVerdict.{ReportVerdict}
 use Rattle.report.specs.declared.ReportVerdict.TheVariants.{Granted, Refused, RefusedAt}
 use Rattle.report.proofs.Given.{given, count_given}
 use Rattle.c_answers.specs.Answer.{in_halves}

@@ -1,15 +1,13 @@
 -- What the private steps do.
-use Rattle.std.specs.Prelude.{ℕ, List, [], ◌∷◌, ◌≡◌, length}
+use Rattle.std.specs.Prelude.{ℕ, List, ◌≡◌, length}
 use Rattle.laws.specs.Order.{Said, granted, refused, in_order, next}
 use Rattle.laws.specs.Space.{pasted, leaves}
 use Rattle.header.specs.declared.Fields.{Fields}
-use Rattle.report.specs.declared.Summary.{Summary}
-use Rattle.report.specs.Report.{Full, report_says}
+use Rattle.report.specs.Report.{Full}
 use Rattle.report.specs.Promise.{writes_hits}
-use Rattle.clock.specs.declared.Clock.{Clock}
 use Rattle.c_answers.specs.Answer.{in_halves}
 use Rattle.c_words.specs.Words.{words_of, summary_words}
-use Rattle.c_words.specs.Says.{enough, how_many_hits, summary_says}
+use Rattle.c_words.specs.Says.{enough, how_many_hits}
 
 -- fields that were read, given as words
 abbrev pub given_says : Fields → ℕ → Said ℕ

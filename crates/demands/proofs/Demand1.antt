@@ -1,8 +1,8 @@
 -- Demand 1: each line is the theorem of the call's own crate; the numbers go by the rows of the definitions.
 use mathlib.Core.Path.{◌≡◌, refl}
-use mathlib.Core.Bool.{Bool, true, false, ◌&&◌, not}
+use mathlib.Core.Bool.{Bool, true, ◌&&◌, not}
 use mathlib.Core.List.{List, [], ◌∷◌, ◌++◌}
-use Prim.Native.Nat.{ℕ, ◌*◌}
+use Prim.Native.Nat.{ℕ}
 use lib.ListN.{length}
 use lib.Dec.{eqb, ltb}
 use Rattle.laws.specs.Order.{granted, refused, ◌when◌, passes}
@@ -24,8 +24,7 @@ use Rattle.header.proofs.Stopping.{read_stops, stops_read, table_stops, stops_ta
 use Rattle.event.proofs.NoChoice.{is_listed_no_choice, class_of_no_choice, listed_class_no_choice}
 use Rattle.place.proofs.NoChoice.{matches_no_choice, matches_some_no_choice, first_word_no_choice, place_of_no_choice, bad_place_no_choice}
 use Rattle.place.proofs.NoChoice.{pack_no_choice, pack_places_no_choice, packed_match_some_no_choice}
-use Rattle.clock.specs.Clock.{has_day, is_clock}
-use Rattle.clock.specs.Lifetime.{year_of, lifetime_of, times_of}
+use Rattle.clock.specs.Lifetime.{lifetime_of, times_of}
 use Rattle.clock.specs.Answers.{clock_says, date_says, asked, lifetime_says, times_says}
 use Rattle.clock.proofs.NoChoice.{check_no_choice, date_of_no_choice, lifetime_no_choice, times_of_no_choice}
 use Rattle.book_rules.specs.Edits.{add_says, added, remove_says}

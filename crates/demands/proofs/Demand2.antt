@@ -2,14 +2,13 @@
 use mathlib.Core.Path.{◌≡◌, refl, ap, ◌∙◌}
 use mathlib.Core.Bool.{not}
 use mathlib.Core.List.{List, [], ◌∷◌, ◌++◌}
-use Prim.Native.Nat.{ℕ, ◌/◌, ◌%◌}
+use Prim.Native.Nat.{ℕ}
 use lib.ListN.{length}
 use lib.Dec.{eqb, ltb}
 use borrow.Author.Tests.{eq-eqb}
 use Rattle.laws.specs.Order.{none, more}
 use Rattle.laws.specs.Lists.{every}
 use Rattle.laws.specs.Numbers.{within, dig}
-use Rattle.laws.specs.Text.{ascii}
 use Rattle.laws.proofs.Tests.{and_i, within_i}
 use Rattle.codec.specs.Codec.{text_list}
 use Rattle.burst.proofs.NoChoice.{vote_writes_the_voted_length}

@@ -7,7 +7,7 @@ use mathlib.Core.List.{List, [], ◌∷◌}
 use native.Mathlib.Omega.{arith}
 use lib.ListN.{length}
 use lib.Dec.{ltb}
-use Rattle.laws.specs.Order.{Said, granted, refused, refused_at, Row, choose, passes}
+use Rattle.laws.specs.Order.{Said, refused_at, Row, choose, passes}
 use Rattle.laws.specs.Numbers.{within}
 use Rattle.laws.proofs.Order.{all_pass, passes_first, passes_more}
 use Rattle.laws.proofs.Tests.{within_lo, within_hi, within_i}

@@ -1,6 +1,6 @@
 -- Demand 1 of the calls from outside: a number of the list fits a half and is not 0, so the two halves tell what was said.
 use Prim.Native.Nat.{ℕ, ◌<◌}
-use mathlib.Core.Path.{◌≡◌, refl, sym, ap, ◌∙◌}
+use mathlib.Core.Path.{◌≡◌, refl, sym, ◌∙◌}
 use mathlib.Core.Bool.{true, false}
 use native.Mathlib.Omega.{arith}
 use lib.ListN.{length}
@@ -21,7 +21,7 @@ use Rattle.c_words.specs.Says.{enough, fields_say, text_says, summary_says}
 use Rattle.same.specs.Says.{strip_says, good_says}
 use Rattle.laws.specs.Order.{Said, granted, refused, refused_at, is_refusal, in_order, next}
 use Rattle.laws.proofs.Order.{passes_rows, passes_next}
-use Rattle.c_answers.specs.Answer.{half, in_halves, number_in, number_of}
+use Rattle.c_answers.specs.Answer.{half, number_of}
 use Rattle.c_answers.proofs.Packs.{halves}
 use Rattle.c_words.proofs.NoChoice.{read_no_choice, write_no_choice, report_no_choice}
 use Rattle.c_words.proofs.NoChoice.{read_refusal_writes_nothing, write_refusal_writes_nothing, report_refusal_writes_nothing}

@@ -1,6 +1,6 @@
 -- Demands 2 and 3 of the calls from outside: a low half of 0 is a granted call, and what the call below says is read off the words.
 use Prim.Native.Nat.{ℕ, ◌+◌, ◌-◌, ◌*◌, ◌≤◌, ◌<◌}
-use mathlib.Core.Path.{◌≡◌, refl, sym, ap, ◌∙◌, subst}
+use mathlib.Core.Path.{◌≡◌, refl, sym, ap, ◌∙◌}
 use mathlib.Core.Bool.{Bool, true, false}
 use mathlib.Core.List.{List, ◌++◌, append_assoc}
 use native.Mathlib.Omega.{arith}
@@ -27,7 +27,7 @@ use Rattle.header.specs.declared.Fields.{Fields}
 use Rattle.header.proofs.Says.{kept, counted_length}
 use Rattle.header.proofs.Callers.{Allowed, allowed}
 use Rattle.header.proofs.Round.{read_form, form_read, text_length}
-use Rattle.header.proofs.Exact.{Grants, grants, form_write}
+use Rattle.header.proofs.Exact.{grants, form_write}
 use Rattle.clock.specs.Clock.{has_day, is_clock}
 use Rattle.clock.specs.Lifetime.{year_of}
 use Rattle.clock.specs.declared.Clock.{Clock}
@@ -42,7 +42,7 @@ use Rattle.report.specs.Exact.{wanted}
 use Rattle.report.specs.Own.{Agree}
 use Rattle.report.proofs.Exact.{lists}
 use Rattle.report.proofs.Own.{same_report, own_client}
-use Rattle.c_answers.specs.Answer.{half, capped, in_halves, number_in, size_or_index_in, number_of, size_or_index_of}
+use Rattle.c_answers.specs.Answer.{half, capped, in_halves, number_in, size_or_index_in}
 use Rattle.c_answers.proofs.Packs.{halves}
 use Rattle.c_words.specs.Words.{front_words, back_words, words_of, places_in, fields_in, summary_words}
 use Rattle.c_words.specs.Says.{fields_say, how_many, text_says, summary_says, how_many_hits}
@@ -52,9 +52,9 @@ use Rattle.same.specs.Says.{strip_says}
 use Rattle.same.specs.declared.SameVoted.{SameVoted}
 use Rattle.same.specs.Promise.{SameStripPromise, SameVotePromise}
 use Rattle.demands.specs.Changes.{Change, stood}
-use Rattle.demands.specs.Outside.{Tells, OutsideNumber}
+use Rattle.demands.specs.Outside.{OutsideNumber}
 use Rattle.demands.specs.OutsideCalls.{CalledOutside}
-use Rattle.demands.specs.OutsideDemands.{alert_of_words, OutsideReport, OutsideReports, SameFields, OutsideTexts, OutsideVote, OutsideDemands}
+use Rattle.demands.specs.OutsideDemands.{alert_of_words, OutsideReport, OutsideReports, SameFields, OutsideDemands}
 use Rattle.demands.proofs.OutsideHistory.{left_afresh, outside_history}
 use Rattle.demands.proofs.OutsideWords.{fields_back, words_back}
 

@@ -7,7 +7,7 @@ use Rattle.laws.specs.Order.{Said, granted, refused, refused_at, passes}
 use Rattle.laws.proofs.Order.{no_number, passes_rows, passes_next, passes_more}
 use Rattle.laws.proofs.Tests.{impossible}
 use Rattle.book_rules.specs.Form.{form}
-use Rattle.book_rules.specs.Rules.{good, empty}
+use Rattle.book_rules.specs.Rules.{empty}
 use Rattle.book_rules.specs.Subscription.{Sub}
 use Rattle.book_rules.specs.Load.{items, load_says}
 use Rattle.book_rules.specs.Afresh.{subs, Afresh}
@@ -41,16 +41,16 @@ pub left_afresh : (run : List Change) (book : List ℕ) → CalledOutside empty 
 unfolding stood
 left_afresh run book c = called_afresh run [] empty book (empty_afresh form form_laws) c
 
-any_run : (w : List ℕ) (run : List Change) → Callable w run
-any_run w [] = record { left = w; called = none }
-any_run w (edits (adds place client wish) ∷ run) =
-    let k = any_run _ run in
+any_run : (run : List Change) (w : List ℕ) → Callable w run
+any_run [] w = record { left = w; called = none }
+any_run (edits (adds place client wish) ∷ run) w =
+    let k = any_run run _ in
     record { left = k.left; called = add (record { says = refl; space = refl }) k.called }
-any_run w (edits (removes place client) ∷ run) =
-    let k = any_run _ run in
+any_run (edits (removes place client) ∷ run) w =
+    let k = any_run run _ in
     record { left = k.left; called = remove (record { says = refl; space = refl }) k.called }
-any_run w (loads words ∷ run) =
-    let k = any_run _ run in
+any_run (loads words ∷ run) w =
+    let k = any_run run _ in
     record { left = k.left; called = load (record { says = refl; space = refl }) k.called }
 
 -- ---- what is answered: a number from 1 to 22 with no index, or 0
@@ -100,7 +100,7 @@ module _ (run : List Change) (book : List ℕ) (c : CalledOutside empty run book
 pub outside_history : OutsideHistory
 unfolding answer
 outside_history = record {
-  any_run = any_run;
+  any_run = λ w run. any_run run w;
   history = left_afresh;
   equals = λ run book fresh c a. one_book form form_laws (stood run) (stood run) book fresh (λ x. refl) (left_afresh run book c) a;
   history_from = λ w run book g c. called_afresh run (subs form w) w book (good_afresh form w g) c;

@@ -1,19 +1,19 @@
 -- Fields and their 50 words, each way: what is pasted of fields that were read says those fields again, and fields that a text can say
 -- are their words up to the last place, with zeros behind it.
-use Prim.Native.Nat.{ℕ, ◌+◌, ◌-◌, ◌≤◌, ◌<◌}
+use Prim.Native.Nat.{ℕ, ◌+◌, ◌-◌, ◌≤◌}
 use mathlib.Core.Path.{◌≡◌, refl, sym, ap, ◌∙◌}
-use mathlib.Core.Bool.{Bool, true, false, ◌&&◌, ◌||◌}
+use mathlib.Core.Bool.{Bool, true, false, ◌||◌}
 use mathlib.Core.List.{List, [], ◌∷◌, ◌++◌, map, append_assoc}
 use native.Mathlib.Omega.{arith}
 use lib.ListN.{length, take, drop, replicate, get_or, length-append, length-drop, length-replicate}
 use lib.Seq.{take_at, drop_at, take-take, take-add, drop-drop, get_or-drop, length-take-le}
-use lib.Dec.{ltb, eqb}
+use lib.Dec.{ltb}
 use borrow.Author.Tests.{lt-ltb}
 use Rattle.laws.specs.Order.{choose}
-use Rattle.laws.specs.Lists.{every, some, same}
+use Rattle.laws.specs.Lists.{every, same}
 use Rattle.laws.specs.Numbers.{within}
 use Rattle.laws.specs.Space.{pasted}
-use Rattle.laws.specs.Text.{ascii, one_of}
+use Rattle.laws.specs.Text.{ascii}
 use Rattle.laws.proofs.Every.{same_eq}
 use Rattle.laws.proofs.Parts.{spelled}
 use Rattle.laws.proofs.Tests.{and_l, and_r, impossible, within_lo, within_hi, within_i}

@@ -1,6 +1,6 @@
 -- The program's numbers: no call below gives 23, and a line that is not of its form gives nothing else.
 use Prim.Native.Nat.{ℕ, ◌≤◌, ◌<◌}
-use mathlib.Core.Path.{◌≡◌, refl, sym, ap, ◌∙◌, subst}
+use mathlib.Core.Path.{◌≡◌, refl, sym, ap, ◌∙◌}
 use mathlib.Core.Logic.{◌⊎◌, inl, inr, ⊎_elim}
 use mathlib.Core.Bool.{Bool, true, false, ◌&&◌, ◌||◌, not}
 use mathlib.Core.List.{List, [], ◌∷◌, ◌++◌, map}
@@ -29,7 +29,7 @@ use Rattle.page_printing.specs.Page.{ended, page_lines, page_text, refused_text}
 use Rattle.page.specs.Input.{clock_of, adds_line, hit_room, Shown, report_shows, lines_say, input_says}
 use Rattle.page.specs.Page.{shown_text, printed, page_of}
 use Rattle.page.proofs.Room.{page_printed}
-use Rattle.demands.specs.Forms.{is_number, numbered}
+use Rattle.demands.specs.Forms.{is_number}
 use Rattle.demands.specs.Malformed.{Bad, NoLine, no_form, missing, NoSub, no_sub, no_end, Malformed, at_now, at_client, at_header, at_sub}
 use Rattle.demands.specs.Program.{PageIs, shows, refuses, ProgramNumbers}
 use Rattle.demands.proofs.Numbered.{is_low, low_number}
@@ -56,6 +56,7 @@ no_line f l (inr h) = simp (lt-leb (length l) 300 h)
 module _ {A B : Type 0} (f : LineForm A) (rest : A → List (List ℕ) → Said B) where
   one_none : (ls : List (List ℕ)) → NoLine f ls → one_line f ls rest ≡ refused 23
   unfolding one_line
+  one_none [] p = elim p [ ]
   one_none (l ∷ (m ∷ ls)) (no_form b) = simp (no_line f l b)
   one_none (l ∷ []) missing = refl
 
@@ -80,17 +81,20 @@ module _ {A B : Type 0} (f : LineForm A) (rest : A → List (List ℕ) → Said 
       by false q r = inl (no_form (bad_line f l q))
 
 no_line_some : {A : Type 0} {f : LineForm A} (ls : List (List ℕ)) → NoLine f ls → 0 < length ls
+no_line_some {A = A} {f = f} [] p = elim p [ ]
 no_line_some (l ∷ (m ∷ ls)) (no_form b) = omega arith
 no_line_some (l ∷ []) missing = omega arith
 
 -- ---- `sub=` lines
 
 no_sub_some : (ls : List (List ℕ)) → NoSub ls → 0 < length ls
+no_sub_some [] p = elim p [ ]
 no_sub_some (l ∷ (m ∷ ls)) (no_sub b) = omega arith
 no_sub_some (l ∷ []) (no_end h) = omega arith
 
 each_none : (w : List ℕ) (ls : List (List ℕ)) → NoSub ls → each_line sub_line adds_line w ls ≡ refused 23
 unfolding each_line
+each_none w [] p = elim p [ ]
 each_none w (l ∷ (m ∷ ls)) (no_sub b) = simp (no_line sub_line l b)
 each_none w (l ∷ []) (no_end h) = simp (ne_eqb (length l) 0 (λ e. omega arith))
 

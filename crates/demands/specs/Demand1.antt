@@ -1,6 +1,6 @@
 -- Demand 1. Its first half is no statement of this crate: that a call takes any input, ends, and touches nothing outside what it was
 -- lent is what the check proves of every function before its promise counts, and no public function has a precondition.
-use Rattle.std.specs.Prelude.{ℕ, ◌+◌, ◌*◌, ◌≡◌, Bool, true, false, ◌&&◌, not, List, [], ◌∷◌, length, eqb, ltb}
+use Rattle.std.specs.Prelude.{ℕ, ◌+◌, ◌*◌, ◌≡◌, Bool, true, ◌&&◌, not, List, [], ◌∷◌, length, eqb, ltb}
 use Rattle.std.specs.Borrow.{Bor}
 use Rattle.laws.specs.Order.{granted, refused, refused_at, ◌when◌, in_order, next, is_refusal}
 use Rattle.laws.specs.Lists.{every}

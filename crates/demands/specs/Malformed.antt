@@ -3,7 +3,7 @@
 use Rattle.std.specs.Prelude.{ℕ, ◌<◌, ◌≡◌, ◌⊎◌, true, false, List, [], ◌∷◌, ◌++◌, map, length}
 use Rattle.laws.specs.Order.{granted}
 use Rattle.laws.specs.Lists.{every}
-use Rattle.input_lines.specs.Lines.{pieces, LineForm, is_line}
+use Rattle.input_lines.specs.Lines.{LineForm, is_line}
 use Rattle.input_lines.specs.Forms.{now_line, client_line, header_line, sub_line}
 use Rattle.input_lines.specs.LineByLine.{each_done}
 use Rattle.book_rules.specs.Rules.{empty}

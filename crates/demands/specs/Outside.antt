@@ -1,6 +1,6 @@
 -- Demand 1 of the 13 calls from outside (include/same.h): the same three sentences, of answers that are one number of 64 bits, or
 -- for the vote that and three numbers more.
-use Rattle.std.specs.Prelude.{ℕ, ◌<◌, ◌≡◌, false, List, length}
+use Rattle.std.specs.Prelude.{ℕ, ◌<◌, ◌≡◌, false, List}
 use Rattle.laws.specs.Order.{Said, is_refusal}
 use Rattle.burst.specs.Vote.{vote_says}
 use Rattle.clock.specs.declared.Clock.{Clock}

@@ -1,1 +1,3 @@
+#![tactic(auto)]
+
 // The demands, statement by statement, and their proofs. There is no code here.

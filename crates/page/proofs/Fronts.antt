@@ -14,7 +14,6 @@ use Rattle.book_rules.specs.Rules.{empty}
 use Rattle.page.specs.Input.{clock_of, adds_line, report_shows, lines_say, input_says, Shown}
 use Rattle.page.specs.Steps.{TopLinesOf}
 use Rattle.page.specs.declared.TopLines.TheVariants.{Lines, Malformed}
-use Rattle.page.specs.declared.Three.{Three}
 
 -- what is asked after each line
 abbrev after_header : ℕ × (ℕ × (ℕ × ℕ)) → ℕ → List ℕ → List (List ℕ) → Said Shown

@@ -8,7 +8,6 @@ use native.Mathlib.Nat.{eq-or-lt_of_le, le_refl, zero-add}
 use native.Mathlib.Numerals.{add-one}
 use native.Mathlib.Omega.{arith}
 use lib.ListN.{length, length-append, length-map}
-use Rattle.laws.specs.Order.{choose}
 use Rattle.laws.specs.Lists.{table, tally, one, keep}
 use Rattle.laws.specs.Space.{pasted}
 use Rattle.laws.proofs.Tally.{tally_append, tally_le, tally_more, length_keep, keep_append}

@@ -5,7 +5,7 @@ use mathlib.Core.List.{List, ◌++◌, map}
 use Prim.Native.Nat.{ℕ, ◌+◌, ◌*◌, ◌-◌, ◌≤◌}
 use native.Mathlib.Omega.{arith}
 use lib.Dec.{ltb}
-use lib.ListN.{length, take, drop, replicate, length-append, length-map, length-replicate}
+use lib.ListN.{length, take, drop, replicate, length-append, length-map}
 use lib.Seq.{take-append-le, take_at, length-take-le}
 use Rattle.laws.proofs.Clash.{clash}
 use Rattle.laws.specs.Order.{Said, granted, refused, refused_at, next, choose}

@@ -1,8 +1,8 @@
 -- What each test says of the client and the wish decides the definition; in range, the word fits.
-use mathlib.Core.Bool.{true, false}
+use mathlib.Core.Bool.{false}
 use mathlib.Core.Path.{◌≡◌, sym, ◌∙◌}
 use native.Mathlib.Omega.{arith}
-use Rattle.book_rules.specs.Form.{form, client_and_wish, bad_client, bad_wish}
+use Rattle.book_rules.specs.Form.{form, client_and_wish, bad_wish}
 use Rattle.book_rules.proofs.Form.{client_fits, wish_fits}
 use Rattle.book_records.proofs.Second.{mark_made, mark_of_no_client, mark_of_no_wish}
 use Rattle.book_records.proofs.mark_or_none.Goals as goal

@@ -1,6 +1,5 @@
 -- The length stands beside 0, a refusal has its number alone: the case says which law of packing holds.
 use mathlib.Core.Path.{sym, ap, ◌∙◌}
-use Prim.Native.Nat.{◌-◌}
 use Rattle.header.specs.Answers.{said_wrote}
 use Rattle.c_answers.specs.Answer.{in_halves}
 use Rattle.c_answers.proofs.Packs.{packs_granted, packs_refused}

@@ -1,6 +1,5 @@
 -- A word over 255 is the byte 0: the test decides.
 use mathlib.Core.Path.{sym, ap}
-use Prim.Native.Nat.{◌-◌}
 use borrow.Author.Tests.{lt-ltb, le-ltb}
 use Rattle.laws.specs.Order.{choose}
 use Rattle.c_words.proofs.byte_of.Goals as goal

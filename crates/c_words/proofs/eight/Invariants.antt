@@ -1,6 +1,6 @@
 -- At the loop's head the first k bytes are in their places, and the rest are zeros.
 use mathlib.Core.Path.{◌≡◌}
-use Prim.Native.Nat.{◌+◌, ◌-◌, ◌≤◌}
+use Prim.Native.Nat.{◌-◌, ◌≤◌}
 use mathlib.Core.List.{◌++◌}
 use lib.ListN.{take, drop, replicate, length}
 use Rattle.c_words.specs.Words.{bytes_at}

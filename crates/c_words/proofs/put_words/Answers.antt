@@ -1,5 +1,4 @@
 -- What is left to write, pasted at its index, gives the whole.
-use Prim.Native.Nat.{◌-◌}
 use native.Mathlib.Omega.{arith}
 use native.Mathlib.Nat.{add-zero}
 use Rattle.laws.proofs.Pasted.{todo}

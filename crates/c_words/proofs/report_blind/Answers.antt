@@ -1,6 +1,5 @@
 -- With no room for a summary the report runs on a word of its own: its refusal comes first, then 13.
 use mathlib.Core.Path.{sym, ◌∙◌}
-use Prim.Native.Nat.{◌-◌}
 use Rattle.report.proofs.Given.{answer_verdict}
 use Rattle.c_words.proofs.Reported.{blind_granted, blind_refused, blind_refused_at}
 use Rattle.report.specs.Report.{report_says}

@@ -1,6 +1,5 @@
 -- Each byte is that of its word.
 use mathlib.Core.Path.{sym, ap, ◌∙◌}
-use Prim.Native.Nat.{◌-◌}
 use native.Mathlib.Omega.{arith}
 use mathlib.Core.List.{[], ◌∷◌, map}
 use Rattle.laws.proofs.Parts.{spelled}

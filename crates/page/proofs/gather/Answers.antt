@@ -1,5 +1,4 @@
 -- The loop's invariant: what is gathered is added first, and then what is left has its say.
-use Prim.Native.Nat.{◌-◌}
 use mathlib.Core.Path.{sym, ap, ◌∙◌}
 use native.Mathlib.Omega.{arith}
 use Rattle.input_lines.specs.Answers.{said_sub}

@@ -1,6 +1,5 @@
 -- Each line that is read leaves the next to say, from the index that it answers; a malformed one says 23.
 use mathlib.Core.Path.{sym, ap, ◌∙◌}
-use Rattle.input_lines.specs.Forms.{now_line, client_line}
 use Rattle.input_lines.specs.Answers.{said_now, said_client, said_header}
 use Rattle.page.proofs.Fronts.{front_1, front_2, front_3, front_4}
 use Rattle.page.proofs.three_lines.Goals as goal

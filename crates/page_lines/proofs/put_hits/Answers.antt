@@ -1,5 +1,4 @@
 -- The lines of the hits that are left, pasted at their index, give the whole.
-use Prim.Native.Nat.{◌-◌}
 use native.Mathlib.Omega.{arith}
 use Rattle.codec.proofs.Puts.{put_yes, put_no}
 use Rattle.page_lines.proofs.HitsLeft.{hits_length, hits_begun, hits_room, hits_turn, hits_ended}

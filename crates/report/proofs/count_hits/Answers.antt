@@ -1,7 +1,5 @@
 -- The loop's invariant: so many hits are counted as stand among the records from..i.
-use Prim.Native.Nat.{◌-◌}
 use mathlib.Core.Path.{◌≡◌, sym, ap, ◌∙◌}
-use mathlib.Core.Logic.{⊎_elim}
 use native.Mathlib.Omega.{arith}
 use Rattle.laws.specs.Lists.{tally, one}
 use Rattle.book_rules.specs.Rules.{rec_at}
@@ -27,15 +25,15 @@ loop-i-preserved c =
     let m = tally_span a.book.now a.from p.i p.invariant.0 (found w s) in
     let v = sym c.is_own.ensures in
     elim c.if-is_own.branch [
-      then-is_own+then-record_matches b ↦
-        let f = own w s r (v ∙ b.if-is_own.true) ∙ sym b.record_matches.ensures ∙ b.if-record_matches.true in
-        (omega arith, omega arith, omega (arith, b.hits-is), omega (arith, m, ap one f, b.hits-is))
-    | then-is_own+else-record_matches b ↦
-        let f = own w s r (v ∙ b.if-is_own.true) ∙ sym b.record_matches.ensures ∙ b.if-record_matches.false in
-        (omega arith, omega arith, omega (arith, b.hits-is), omega (arith, m, ap one f, b.hits-is))
-    | else-is_own b ↦
-        let f = not_own w s r (v ∙ b.if-is_own.false) in
-        (omega arith, omega arith, omega (arith, b.hits-is), omega (arith, m, ap one f, b.hits-is))
+      | then-is_own+then-record_matches b ↦
+          let f = own w s r (v ∙ b.if-is_own.true) ∙ sym b.record_matches.ensures ∙ b.if-record_matches.true in
+          (omega arith, omega arith, omega (arith, b.hits-is), omega (arith, m, ap one f, b.hits-is))
+      | then-is_own+else-record_matches b ↦
+          let f = own w s r (v ∙ b.if-is_own.true) ∙ sym b.record_matches.ensures ∙ b.if-record_matches.false in
+          (omega arith, omega arith, omega (arith, b.hits-is), omega (arith, m, ap one f, b.hits-is))
+      | else-is_own b ↦
+          let f = not_own w s r (v ∙ b.if-is_own.false) in
+          (omega arith, omega arith, omega (arith, b.hits-is), omega (arith, m, ap one f, b.hits-is))
     ]
 
 pub returns : goal.returns

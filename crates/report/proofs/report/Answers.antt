@@ -1,8 +1,6 @@
 -- Each test that is passed leaves the next to say: the book's, the client's, then what the reader says of the header.
 use mathlib.Core.Path.{sym, ◌∙◌}
-use mathlib.Core.Bool.{true, false}
 use Rattle.header.specs.Answers.{alert_in}
-use Rattle.book_rules.specs.Form.{bad_client}
 use Rattle.report.proofs.Stages.{bad_book, no_client, no_header, with_header, unread, read_is, readable}
 use Rattle.report.proofs.report.Goals as goal
 

@@ -1,9 +1,6 @@
 -- The loop's invariant: the words of the hits among the records from..i stand from index at on, and e is the index after them.
-use Prim.Native.Nat.{◌-◌}
 use mathlib.Core.Path.{◌≡◌, sym, ap, ◌∙◌}
-use mathlib.Core.Logic.{⊎_elim}
 use native.Mathlib.Omega.{arith}
-use lib.ListN.{length}
 use Rattle.laws.specs.Lists.{one}
 use Rattle.book_rules.specs.Rules.{rec_at}
 use Rattle.report.specs.Steps.{record_matches, found}
@@ -39,14 +36,14 @@ loop-i-preserved c =
     let v = sym c.is_own.ensures in
     let below = c.loop-i-test.true in
     elim c.if-is_own.branch [
-      then-is_own b ↦
-        let o = own a.wanted a.sent.now r (v ∙ b.if-is_own.true) in
-        let t = turn k w a.from p.i a.to a.at a.out.now p.invariant.0 below c.requires.3 j (sym o) p.out _ p.e _ p.invariant.3 in
-        (omega arith, omega arith, c.if-is_own.auto.out ∙ p.invariant.2, rw (b.out-is, b.e-is) (t b.put_hit-e.ensures))
-    | else-is_own b ↦
-        let o = not_own a.wanted a.sent.now r (v ∙ b.if-is_own.false) in
-        let t = turn_no k w a.from p.i a.to a.at a.out.now p.invariant.0 below c.requires.3 p.out p.e o p.invariant.3 in
-        (omega arith, omega arith, c.if-is_own.auto.out ∙ p.invariant.2, rw (b.out-is, b.e-is) t)
+      | then-is_own b ↦
+          let o = own a.wanted a.sent.now r (v ∙ b.if-is_own.true) in
+          let t = turn k w a.from p.i a.to a.at a.out.now p.invariant.0 below c.requires.3 j (sym o) p.out _ p.e _ p.invariant.3 in
+          (omega arith, omega arith, c.if-is_own.auto.out ∙ p.invariant.2, rw (b.out-is, b.e-is) (t b.put_hit-e.ensures))
+      | else-is_own b ↦
+          let o = not_own a.wanted a.sent.now r (v ∙ b.if-is_own.false) in
+          let t = turn_no k w a.from p.i a.to a.at a.out.now p.invariant.0 below c.requires.3 p.out p.e o p.invariant.3 in
+          (omega arith, omega arith, c.if-is_own.auto.out ∙ p.invariant.2, rw (b.out-is, b.e-is) t)
     ]
 
 pub shape_of-out : goal.shape_of-out
