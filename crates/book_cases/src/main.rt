@@ -4,11 +4,14 @@
 // add and remove: place, client, wish. poke: a word's index, and what to put there. short: an addition to the book without its last
 // word. load: the words of ITEMS from one index up to another. A line with one number is about all of 4,096 subscriptions: filled and
 // emptied one by one, with how many were done, or loaded, with the last one's wish.
+#![tactic(auto)]
+
 ghost use Rattle.std.specs.Prelude.{◌≡◌, ◌<◌, ◌≤◌, length};
 
 use book_edits::Edited;
 use codec::Number;
-use libc::STDOUT_FILENO;
+use std::io;
+use std::io::{BufWriter, Read, Write};
 
 // Four items with two words left over; three with a wish 0 in the second; a doubled one.
 const ITEMS: [u32; 29] = [
@@ -36,10 +39,8 @@ fn one_done(answer: Edited) -> u32
 // The sum of all words.
 fn sum_of(book: &[u32]) -> u64 {
     let mut sum: u64 = 0;
-    let mut i: usize = 0;
-    while i < book.len() {
-        sum = std::num::wrapping_add_u64(sum, book[i] as u64);
-        i += 1;
+    for word in book {
+        sum = sum.wrapping_add(*word as u64);
     }
     sum
 }
@@ -87,9 +88,8 @@ fn place_by(i: u32) -> u32
 // Adds all 4,096, the last one first; answers how many were done.
 fn fill(book: &mut [u32]) -> u32 {
     let mut count: u32 = 0;
-    let mut i: u32 = 4096;
-    while 0 < i {
-        i -= 1;
+    for done in 0..4096 {
+        let i = 4095 - done;
         count += one_done(book_edits::add(book, place_by(i), 1 + i % 9999, 1 + i % 63));
     }
     count
@@ -98,10 +98,8 @@ fn fill(book: &mut [u32]) -> u32 {
 // Removes all 4,096, the first one first; answers how many were done.
 fn empty(book: &mut [u32]) -> u32 {
     let mut count: u32 = 0;
-    let mut i: u32 = 0;
-    while i < 4096 {
+    for i in 0..4096 {
         count += one_done(book_edits::remove(book, place_by(i), 1 + i % 9999));
-        i += 1;
     }
     count
 }
@@ -110,14 +108,12 @@ fn empty(book: &mut [u32]) -> u32 {
 fn list_all(items: &mut [u32])
     requires { length items.old ≡ 12288 }
 {
-    let mut i: u32 = 0;
-    while i < 4096 {
+    for i in 0..4096u32 {
         let k = i * 2731 % 4096;
         let at = 3 * i as usize;
         items[at] = place_by(k);
         items[at + 1] = 1 + k % 9999;
         items[at + 2] = 1 + k % 63;
-        i += 1;
     }
 }
 
@@ -147,23 +143,35 @@ fn edited_all(book: &mut [u32], kind: u8, wish: u32) -> u32 {
     }
 }
 
-fn say(text: &[u8]) {
-    io::write_all(STDOUT_FILENO, text);
+fn say<W: Write>(out: &mut W, text: &[u8]) -> io::Result<()> {
+    out.write_all(text)
 }
 
-fn number(n: u64) {
-    io::print_decimal(STDOUT_FILENO, n);
+fn number<W: Write>(out: &mut W, n: u64) -> io::Result<()> {
+    write!(out, "{n}")
 }
 
 // Prints what is to be seen of a book.
-fn print_book(book: &[u32]) {
+fn print_book<W: Write>(out: &mut W, book: &[u32]) -> io::Result<()> {
     if book_check::is_good(book) {
-        say(b", good, sum ");
+        say(out, b", good, sum ")?;
     } else {
-        say(b", bad, sum ");
+        say(out, b", bad, sum ")?;
     }
-    number(sum_of(book));
-    say(b"\n");
+    number(out, sum_of(book))?;
+    say(out, b"\n")
+}
+
+// The index of the next byte b from an index on, or the length.
+fn find(input: &[u8], at: usize, b: u8) -> usize
+    requires { at ≤ length input.now }
+    ensures from { at ≤ result }
+    ensures within { result ≤ length input.now }
+{
+    match input[at..].iter().position(|x| *x == b) {
+        Some(k) => at + k,
+        None => input.len(),
+    }
 }
 
 // Where the next word of a line starts, or the line's length.
@@ -171,7 +179,7 @@ fn past(line: &[u8], at: usize) -> usize
     requires { at ≤ length line.now }
     ensures { result ≤ length line.now }
 {
-    let end = bytes::scan::find(line, at, line.len(), b' ');
+    let end = find(line, at, b' ');
     if end < line.len() { end + 1 } else { end }
 }
 
@@ -179,62 +187,89 @@ fn past(line: &[u8], at: usize) -> usize
 fn word(line: &[u8], at: usize) -> u32
     requires { at ≤ length line.now }
 {
-    let end = bytes::scan::find(line, at, line.len(), b' ');
+    let end = find(line, at, b' ');
     match codec::digits_at(line, at, end - at) {
         Number::Is(n) => n,
         Number::NoNumber => 0,
     }
 }
 
-fn one_edit(book: &mut [u32], line: &[u8], kind: u8, a: usize, b: usize, c: usize)
+fn one_edit<W: Write>(
+    out: &mut W,
+    book: &mut [u32],
+    line: &[u8],
+    kind: u8,
+    a: usize,
+    b: usize,
+    c: usize,
+) -> io::Result<()>
     requires { (a ≤ length line.now) × (b ≤ length line.now) × (c ≤ length line.now) }
 {
-    say(line);
-    say(b" = ");
-    number(edited(book, kind, word(line, a), word(line, b), word(line, c)) as u64);
+    say(out, line)?;
+    say(out, b" = ")?;
+    number(
+        out,
+        edited(book, kind, word(line, a), word(line, b), word(line, c)) as u64,
+    )
 }
 
-fn all_edits(book: &mut [u32], line: &[u8], kind: u8, a: usize)
+fn all_edits<W: Write>(
+    out: &mut W,
+    book: &mut [u32],
+    line: &[u8],
+    kind: u8,
+    a: usize,
+) -> io::Result<()>
     requires { a ≤ length line.now }
 {
-    say(&line[..a]);
-    number(edited_all(book, kind, word(line, a)) as u64);
+    say(out, &line[..a])?;
+    number(out, edited_all(book, kind, word(line, a)) as u64)
 }
 
 // One edit, or all 4,096, by how many numbers the line has.
-fn edit_by(book: &mut [u32], line: &[u8], a: usize, b: usize, c: usize)
+fn edit_by<W: Write>(
+    out: &mut W,
+    book: &mut [u32],
+    line: &[u8],
+    a: usize,
+    b: usize,
+    c: usize,
+) -> io::Result<()>
     requires { (a ≤ length line.now) × (b ≤ length line.now) × (c ≤ length line.now) }
 {
     if line.len() == 0 {
-        return;
+        return Ok(());
     }
     if c < line.len() {
-        one_edit(book, line, line[0], a, b, c);
-        return;
+        return one_edit(out, book, line, line[0], a, b, c);
     }
-    all_edits(book, line, line[0], a);
+    all_edits(out, book, line, line[0], a)
 }
 
-fn case(book: &mut [u32], line: &[u8]) {
+fn case<W: Write>(out: &mut W, book: &mut [u32], line: &[u8]) -> io::Result<()> {
     let a = past(line, 0);
     let b = past(line, a);
     let c = past(line, b);
-    edit_by(book, line, a, b, c);
-    print_book(book);
+    edit_by(out, book, line, a, b, c)?;
+    print_book(out, book)
 }
 
-fn cases(book: &mut [u32], input: &[u8]) {
+fn cases<W: Write>(out: &mut W, book: &mut [u32], input: &[u8]) -> io::Result<()> {
     let mut at: usize = 0;
     while at < input.len() {
-        let e = bytes::scan::find(input, at, input.len(), b'\n');
-        case(book, &input[at..e]);
+        let e = find(input, at, b'\n');
+        case(out, book, &input[at..e])?;
         at = e + 1;
     }
+    Ok(())
 }
 
-fn main() {
+// The input's first 2,048 bytes are read.
+fn main(rt: HostRuntime) -> io::Result<()> {
     let mut book = [0u32; 8293];
-    let mut input = [0u8; 2048];
-    let n = io::read_full(0, &mut input);
-    cases(&mut book, &input[..n]);
+    let mut input = Vec::new(rt.alloc());
+    rt.stdin().take(2048).read_to_end(&mut input)?;
+    let mut out = BufWriter::new(rt.alloc(), io::writer(&rt))?;
+    cases(&mut out, &mut book, &input)?;
+    out.flush()
 }

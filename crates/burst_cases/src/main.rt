@@ -4,10 +4,14 @@
 //
 // In the input and in what is printed, `<` stands for AB, and `!`, `"`, `#`, `$`, `%`, `&` and `'` for AB with bit 0, 1, 2, 3, 4, 5
 // or 6 turned. With bit 7 turned it is `+`, which stands for itself. So no name of a case has one of these marks.
+#![tactic(auto)]
+
 ghost use Rattle.std.specs.Prelude.{◌≤◌, length};
 
 use burst::{VoteAnswer, Voted};
 use codec::Number;
+use std::io;
+use std::io::{BufWriter, Read, Write};
 
 const MARKS: [u8; 8] = *b"<!\"#$%&'";
 
@@ -15,12 +19,10 @@ const PREAMBLES: [u8; 8] = [0xAB, 0xAA, 0xA9, 0xAF, 0xA3, 0xBB, 0x8B, 0xEB];
 
 // A byte of one table becomes the byte at the same index of the other; any other byte stays.
 fn exchange(b: u8, from: &[u8; 8], to: &[u8; 8]) -> u8 {
-    let mut i: usize = 0;
-    while i < 8 {
-        if from[i] == b {
-            return to[i];
+    for (x, y) in from.iter().zip(to) {
+        if *x == b {
+            return *y;
         }
-        i += 1;
     }
     b
 }
@@ -33,100 +35,118 @@ fn marked(b: u8) -> u8 {
     exchange(b, &PREAMBLES, &MARKS)
 }
 
-fn say(text: &[u8]) {
-    io::write_all(1, text);
+fn say<W: Write>(out: &mut W, text: &[u8]) -> io::Result<()> {
+    out.write_all(text)
 }
 
 // Bytes as they are written in the input.
-fn show(bytes: &[u8]) {
-    let mut i: usize = 0;
-    while i < bytes.len() {
-        say(&[marked(bytes[i])]);
-        i += 1;
+fn show<W: Write>(out: &mut W, bytes: &[u8]) -> io::Result<()> {
+    for b in bytes {
+        say(out, &[marked(*b)])?;
     }
+    Ok(())
 }
 
 // A word, and a number after it.
-fn tell(text: &[u8], n: usize) {
-    say(text);
-    io::print_decimal(1, n as u64);
+fn tell<W: Write>(out: &mut W, text: &[u8], n: usize) -> io::Result<()> {
+    say(out, text)?;
+    write!(out, "{n}")
 }
 
 // How many bytes are dropped, and the part that is left.
-fn strip(burst: &[u8]) {
-    tell(b": leading=", burst::leading(burst));
+fn strip<W: Write>(out: &mut W, burst: &[u8]) -> io::Result<()> {
+    tell(out, b": leading=", burst::leading(burst))?;
     let part = burst::strip(burst);
-    tell(b" left=", part.len());
-    say(b" part=");
-    show(part);
+    tell(out, b" left=", part.len())?;
+    say(out, b" part=")?;
+    show(out, part)
 }
 
-fn settled(voted: Voted) {
+fn settled<W: Write>(out: &mut W, voted: Voted) -> io::Result<()> {
     match voted {
-        Voted::Text(n) => tell(b": text=", n),
-        Voted::Refused(number) => tell(b": refused=", number as usize),
+        Voted::Text(n) => tell(out, b": text=", n),
+        Voted::Refused(number) => tell(out, b": refused=", number as usize),
         Voted::RefusedAt(number, index) => {
-            tell(b": refused=", number as usize);
-            tell(b" at=", index);
+            tell(out, b": refused=", number as usize)?;
+            tell(out, b" at=", index)
         }
     }
 }
 
 // What was settled, and how many bytes were dropped of each burst.
-fn answer(said: VoteAnswer) {
+fn answer<W: Write>(out: &mut W, said: VoteAnswer) -> io::Result<()> {
     let voted = said.voted;
-    settled(voted);
-    tell(b" dropped=", said.first);
-    tell(b" ", said.second);
-    tell(b" ", said.third);
+    settled(out, voted)?;
+    tell(out, b" dropped=", said.first)?;
+    tell(out, b" ", said.second)?;
+    tell(out, b" ", said.third)
 }
 
-fn vote(a: &[u8], b: &[u8], c: &[u8], out: &mut [u8]) {
-    answer(burst::vote(a, b, c, out));
-    say(b" space=");
-    show(out);
+fn vote<W: Write>(out: &mut W, a: &[u8], b: &[u8], c: &[u8], space: &mut [u8]) -> io::Result<()> {
+    answer(out, burst::vote(a, b, c, space))?;
+    say(out, b" space=")?;
+    show(out, space)
 }
 
 // A vote with the first bytes of a space lent, so many as are asked for.
-fn vote_in(a: &[u8], b: &[u8], c: &[u8], space: &mut [u8], room: usize) {
+fn vote_in<W: Write>(
+    out: &mut W,
+    a: &[u8],
+    b: &[u8],
+    c: &[u8],
+    space: &mut [u8],
+    room: usize,
+) -> io::Result<()> {
     if room <= space.len() {
-        vote(a, b, c, &mut space[..room]);
+        vote(out, a, b, c, &mut space[..room])?;
     }
+    Ok(())
 }
 
-fn vote_case(line: &[u8]) {
+fn vote_case<W: Write>(out: &mut W, line: &[u8]) -> io::Result<()> {
     let mut space = [b'.'; 252];
     let lent = room(part(line, 4));
     vote_in(
+        out,
         part(line, 1),
         part(line, 2),
         part(line, 3),
         &mut space,
         lent,
-    );
+    )
+}
+
+// The index of the next byte b from an index on, or the length.
+fn find(input: &[u8], at: usize, b: u8) -> usize
+    requires { at ≤ length input.now }
+    ensures from { at ≤ result }
+    ensures within { result ≤ length input.now }
+{
+    match input[at..].iter().position(|x| *x == b) {
+        Some(k) => at + k,
+        None => input.len(),
+    }
 }
 
 // Where part k of a line starts, or the line's length.
 fn start(line: &[u8], k: usize) -> usize
     ensures { result ≤ length line.now }
 {
-    let mut passed: usize = 0;
-    let mut i: usize = 0;
-    while i < line.len() {
-        if passed == k {
+    let mut left = k;
+    for (i, b) in line.iter().enumerate() {
+        if left == 0 {
             return i;
         }
-        if line[i] == b'|' {
-            passed += 1;
+        if *b == b'|' {
+            left -= 1;
         }
-        i += 1;
     }
-    i
+    line.len()
 }
 
 fn part(line: &[u8], k: usize) -> &[u8] {
     let at = start(line, k);
-    let end = bytes::scan::find(line, at, line.len(), b'|');
+    let end = find(line, at, b'|');
     &line[at..end]
 }
 
@@ -137,41 +157,43 @@ fn room(digits: &[u8]) -> usize {
     }
 }
 
-fn case(line: &[u8]) {
-    say(part(line, 0));
+fn case<W: Write>(out: &mut W, line: &[u8]) -> io::Result<()> {
+    say(out, part(line, 0))?;
     if start(line, 2) == line.len() {
-        strip(part(line, 1));
+        strip(out, part(line, 1))?;
     } else {
-        vote_case(line);
+        vote_case(out, line)?;
     }
-    say(b"\n");
+    say(out, b"\n")
 }
 
-fn cases(input: &[u8]) {
+fn cases<W: Write>(out: &mut W, input: &[u8]) -> io::Result<()> {
     let mut at: usize = 0;
     while at < input.len() {
-        let e = bytes::scan::find(input, at, input.len(), b'\n');
-        case(&input[at..e]);
+        let e = find(input, at, b'\n');
+        case(out, &input[at..e])?;
         at = e + 1;
     }
+    Ok(())
 }
 
 // Puts the byte that is meant for each mark.
 fn put_preambles(input: &mut [u8]) {
-    let mut i: usize = 0;
-    while i < input.len() {
-        input[i] = meant(input[i]);
-        i += 1;
+    for b in input.iter_mut() {
+        *b = meant(*b);
     }
 }
 
-fn run(input: &mut [u8]) {
+fn run<W: Write>(out: &mut W, input: &mut [u8]) -> io::Result<()> {
     put_preambles(input);
-    cases(input);
+    cases(out, input)
 }
 
-fn main() {
-    let mut input = [0u8; 8192];
-    let n = io::read_full(0, &mut input);
-    run(&mut input[..n]);
+// The input's first 8,192 bytes are read.
+fn main(rt: HostRuntime) -> io::Result<()> {
+    let mut input = Vec::new(rt.alloc());
+    rt.stdin().take(8192).read_to_end(&mut input)?;
+    let mut out = BufWriter::new(rt.alloc(), io::writer(&rt))?;
+    run(&mut out, &mut input)?;
+    out.flush()
 }

@@ -1,4 +1,6 @@
 // What a line asks: the numbers after its first word.
+ghost use Rattle.std.specs.Prelude.{◌≤◌, length};
+
 use clock::Clock;
 
 #[derive(Drop)]
@@ -9,33 +11,40 @@ pub(crate) struct Issue {
     pub duration: u32,
 }
 
+// The index of the next byte b from an index on, or the length.
+pub(crate) fn find(input: &[u8], at: usize, b: u8) -> usize
+    requires { at ≤ length input.now }
+    ensures from { at ≤ result }
+    ensures within { result ≤ length input.now }
+{
+    match input[at..].iter().position(|x| *x == b) {
+        Some(k) => at + k,
+        None => input.len(),
+    }
+}
+
 // Where word k of a line starts, or the line's length.
 fn start(line: &[u8], k: usize) -> usize {
     let mut left = k;
-    let mut i: usize = 0;
-    while i < line.len() {
+    for (i, b) in line.iter().enumerate() {
         if left == 0 {
             return i;
         }
-        if line[i] == b' ' {
+        if *b == b' ' {
             left -= 1;
         }
-        i += 1;
     }
-    i
+    line.len()
 }
 
 // The number whose digits start at an index: its last ten.
 fn number(line: &[u8], at: usize) -> u64 {
     let mut n: u64 = 0;
-    let mut i = at;
-    while i < line.len() {
-        let b = line[i];
-        if b < b'0' {
+    for b in line.iter().skip(at) {
+        if *b < b'0' {
             return n;
         }
-        n = n % 1000000000 * 10 + (b % 48) as u64;
-        i += 1;
+        n = n % 1000000000 * 10 + (*b % 48) as u64;
     }
     n
 }

@@ -1,65 +1,79 @@
 // Each line of the input is a case: an event's code, or a call with its numbers. Prints the line, and what the calls say of it.
+#![tactic(auto)]
+
 mod asked;
 mod said;
 mod shown;
 
 use asked::word;
 use shown::{mark, say};
+use std::io;
+use std::io::{BufWriter, Read, Write};
 
 // A code: whether it is listed, and its class, from the two calls and from the one that says both.
-fn event(a: u8, b: u8, c: u8) {
-    said::kind(event::is_listed(a, b, c), event::class_of(a, b, c));
+fn event<W: Write>(out: &mut W, a: u8, b: u8, c: u8) -> io::Result<()> {
+    said::kind(out, event::is_listed(a, b, c), event::class_of(a, b, c))?;
     let kind = event::listed_class(a, b, c);
-    said::kind(kind.listed, kind.class);
+    said::kind(out, kind.listed, kind.class)
 }
 
-fn date(line: &[u8]) {
-    said::date(clock::date_of(word(line, 1), word(line, 2)));
+fn date<W: Write>(out: &mut W, line: &[u8]) -> io::Result<()> {
+    said::date(out, clock::date_of(word(line, 1), word(line, 2)))
 }
 
-fn places(line: &[u8]) {
-    said::yes(place::matches(word(line, 1), word(line, 2)));
+fn places<W: Write>(out: &mut W, line: &[u8]) -> io::Result<()> {
+    said::yes(out, place::matches(word(line, 1), word(line, 2)))
 }
 
 // What the call for all times says, and what the call for the phase says.
-fn times(line: &[u8]) {
+fn times<W: Write>(out: &mut W, line: &[u8]) -> io::Result<()> {
     let at = asked::clock_of(line);
     let issue = asked::issue_of(line);
-    said::timed(clock::times_of(at, issue.day, issue.hour, issue.minute, issue.duration));
-    said::life(clock::lifetime(at, issue.day, issue.hour, issue.minute, issue.duration));
+    said::timed(
+        out,
+        clock::times_of(at, issue.day, issue.hour, issue.minute, issue.duration),
+    )?;
+    said::life(
+        out,
+        clock::lifetime(at, issue.day, issue.hour, issue.minute, issue.duration),
+    )
 }
 
-fn call(line: &[u8], name: u8) {
-    mark(b':');
+fn call<W: Write>(out: &mut W, line: &[u8], name: u8) -> io::Result<()> {
+    mark(out, b':')?;
     match name {
-        b'c' => said::checked(clock::check(asked::clock_of(line))),
-        b'd' => date(line),
-        b't' => times(line),
-        _ => places(line),
+        b'c' => said::checked(out, clock::check(asked::clock_of(line))),
+        b'd' => date(out, line),
+        b't' => times(out, line),
+        _ => places(out, line),
     }
 }
 
-fn case(line: &[u8]) {
-    say(line);
+fn case<W: Write>(out: &mut W, line: &[u8]) -> io::Result<()> {
+    say(out, line)?;
     if line.len() == 3 {
-        event(line[0], line[1], line[2]);
+        event(out, line[0], line[1], line[2])?;
     } else if 3 < line.len() {
-        call(line, line[0]);
+        call(out, line, line[0])?;
     }
-    mark(b'\n');
+    mark(out, b'\n')
 }
 
-fn cases(input: &[u8]) {
+fn cases<W: Write>(out: &mut W, input: &[u8]) -> io::Result<()> {
     let mut at: usize = 0;
     while at < input.len() {
-        let e = bytes::scan::find(input, at, input.len(), b'\n');
-        case(&input[at..e]);
+        let e = asked::find(input, at, b'\n');
+        case(out, &input[at..e])?;
         at = e + 1;
     }
+    Ok(())
 }
 
-fn main() {
-    let mut input = [0u8; 8192];
-    let n = io::read_full(0, &mut input);
-    cases(&input[..n]);
+// The input's first 8,192 bytes are read.
+fn main(rt: HostRuntime) -> io::Result<()> {
+    let mut input = Vec::new(rt.alloc());
+    rt.stdin().take(8192).read_to_end(&mut input)?;
+    let mut out = BufWriter::new(rt.alloc(), io::writer(&rt))?;
+    cases(&mut out, &input)?;
+    out.flush()
 }

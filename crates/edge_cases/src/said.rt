@@ -1,72 +1,74 @@
 // What the calls say, each with a space before it.
 use super::shown::{mark, number, pair, say};
 use clock::{Checked, Date, Life, Phase, Stamp, Timed, Times};
+use std::io;
+use std::io::Write;
 
-pub(crate) fn yes(b: bool) {
+pub(crate) fn yes<W: Write>(out: &mut W, b: bool) -> io::Result<()> {
     if b {
-        say(b" yes");
+        say(out, b" yes")
     } else {
-        say(b" no");
+        say(out, b" no")
     }
 }
 
-pub(crate) fn kind(listed: bool, class: u32) {
-    yes(listed);
-    mark(b' ');
-    number(class);
+pub(crate) fn kind<W: Write>(out: &mut W, listed: bool, class: u32) -> io::Result<()> {
+    yes(out, listed)?;
+    mark(out, b' ')?;
+    number(out, class)
 }
 
-fn refused(n: u32) {
-    say(b" refused=");
-    number(n);
+fn refused<W: Write>(out: &mut W, n: u32) -> io::Result<()> {
+    say(out, b" refused=")?;
+    number(out, n)
 }
 
-pub(crate) fn checked(answer: Checked) {
+pub(crate) fn checked<W: Write>(out: &mut W, answer: Checked) -> io::Result<()> {
     match answer {
-        Checked::Good => say(b" good"),
-        Checked::Bad(n) => refused(n),
+        Checked::Good => say(out, b" good"),
+        Checked::Bad(n) => refused(out, n),
     }
 }
 
-pub(crate) fn date(answer: Date) {
+pub(crate) fn date<W: Write>(out: &mut W, answer: Date) -> io::Result<()> {
     match answer {
-        Date::On(date) => pair(b' ', date.month, b'-', date.day),
-        Date::NoDate(n) => refused(n),
+        Date::On(date) => pair(out, b' ', date.month, b'-', date.day),
+        Date::NoDate(n) => refused(out, n),
     }
 }
 
-fn stamp(s: Stamp) {
-    pair(b' ', s.month, b'-', s.day);
-    pair(b' ', s.hour, b':', s.minute);
+fn stamp<W: Write>(out: &mut W, s: Stamp) -> io::Result<()> {
+    pair(out, b' ', s.month, b'-', s.day)?;
+    pair(out, b' ', s.hour, b':', s.minute)
 }
 
-fn phase(p: Phase) {
+fn phase<W: Write>(out: &mut W, p: Phase) -> io::Result<()> {
     match p {
-        Phase::Early => say(b" early"),
-        Phase::Live => say(b" live"),
-        Phase::Expired => say(b" expired"),
+        Phase::Early => say(out, b" early"),
+        Phase::Live => say(out, b" live"),
+        Phase::Expired => say(out, b" expired"),
     }
 }
 
-fn times(t: Times) {
+fn times<W: Write>(out: &mut W, t: Times) -> io::Result<()> {
     let issued = t.issued;
     let until = t.until;
     let now = t.phase;
-    stamp(issued);
-    stamp(until);
-    phase(now);
+    stamp(out, issued)?;
+    stamp(out, until)?;
+    phase(out, now)
 }
 
-pub(crate) fn timed(answer: Timed) {
+pub(crate) fn timed<W: Write>(out: &mut W, answer: Timed) -> io::Result<()> {
     match answer {
-        Timed::Are(t) => times(t),
-        Timed::NoTimes(n) => refused(n),
+        Timed::Are(t) => times(out, t),
+        Timed::NoTimes(n) => refused(out, n),
     }
 }
 
-pub(crate) fn life(answer: Life) {
+pub(crate) fn life<W: Write>(out: &mut W, answer: Life) -> io::Result<()> {
     match answer {
-        Life::Is(now) => phase(now),
-        Life::NoLife(n) => refused(n),
+        Life::Is(now) => phase(out, now),
+        Life::NoLife(n) => refused(out, n),
     }
 }

@@ -1,27 +1,34 @@
 // How an answer is printed: a text, a mark, a number.
-use libc::STDOUT_FILENO;
+use std::io;
+use std::io::Write;
 
-pub(crate) fn say(text: &[u8]) {
-    io::write_all(STDOUT_FILENO, text);
+pub(crate) fn say<W: Write>(out: &mut W, text: &[u8]) -> io::Result<()> {
+    out.write_all(text)
 }
 
-pub(crate) fn mark(b: u8) {
-    say(&[b]);
+pub(crate) fn mark<W: Write>(out: &mut W, b: u8) -> io::Result<()> {
+    say(out, &[b])
 }
 
-pub(crate) fn number(n: u32) {
-    io::print_decimal(STDOUT_FILENO, n as u64);
+pub(crate) fn number<W: Write>(out: &mut W, n: u32) -> io::Result<()> {
+    write!(out, "{n}")
 }
 
-fn two(n: u32) {
-    number(n / 10);
-    number(n % 10);
+fn two<W: Write>(out: &mut W, n: u32) -> io::Result<()> {
+    number(out, n / 10)?;
+    number(out, n % 10)
 }
 
 // A mark, and two numbers of two digits with a mark between them.
-pub(crate) fn pair(first: u8, a: u32, between: u8, b: u32) {
-    mark(first);
-    two(a);
-    mark(between);
-    two(b);
+pub(crate) fn pair<W: Write>(
+    out: &mut W,
+    first: u8,
+    a: u32,
+    between: u8,
+    b: u32,
+) -> io::Result<()> {
+    mark(out, first)?;
+    two(out, a)?;
+    mark(out, between)?;
+    two(out, b)
 }

@@ -1,90 +1,89 @@
 // Reads texts, one to a line, and prints what each says or the number and index of its refusal, and whether it writes back
 // the same; then tries the writer on fields that it must refuse.
+#![tactic(auto)]
+
 ghost use Rattle.std.specs.Prelude.{◌≤◌, length};
 
 use header::{Fields, ReadVerdict, Wrote};
+use std::io;
+use std::io::{BufWriter, Read, Write};
 
-fn word(s: &[u8]) {
-    io::write_all(1, s);
+fn word<W: Write>(out: &mut W, s: &[u8]) -> io::Result<()> {
+    out.write_all(s)
 }
 
-fn number(n: u32) {
-    io::print_decimal(1, n as u64);
+fn number<W: Write>(out: &mut W, n: u32) -> io::Result<()> {
+    write!(out, "{n}")
 }
 
-fn index(n: usize) {
-    io::print_decimal(1, n as u64);
+fn index<W: Write>(out: &mut W, n: usize) -> io::Result<()> {
+    write!(out, "{n}")
 }
 
-fn spaced(n: u32) {
-    word(b" ");
-    number(n);
+fn spaced<W: Write>(out: &mut W, n: u32) -> io::Result<()> {
+    word(out, b" ")?;
+    number(out, n)
 }
 
-fn places(codes: [u32; 31], count: usize) {
-    let mut k: usize = 0;
-    while k < 31 {
-        if k < count {
-            spaced(codes[k]);
-        }
-        k += 1;
+fn places<W: Write>(out: &mut W, codes: [u32; 31], count: usize) -> io::Result<()> {
+    for code in codes.iter().take(count) {
+        spaced(out, *code)?;
     }
+    Ok(())
 }
 
 // Origin, event, places, minutes, day, hour, minute and sender.
-fn fields(f: Fields) {
+fn fields<W: Write>(out: &mut W, f: Fields) -> io::Result<()> {
     let origin = f.origin;
     let event = f.event;
     let sender = f.sender;
     let codes = f.places;
-    word(&origin);
-    word(b" ");
-    word(&event);
-    places(codes, f.count);
-    word(b" +");
-    number(f.duration);
-    spaced(f.day);
-    spaced(f.hour);
-    spaced(f.minute);
-    word(b" [");
-    word(&sender);
-    word(b"] ");
+    word(out, &origin)?;
+    word(out, b" ")?;
+    word(out, &event)?;
+    places(out, codes, f.count)?;
+    word(out, b" +")?;
+    number(out, f.duration)?;
+    spaced(out, f.day)?;
+    spaced(out, f.hour)?;
+    spaced(out, f.minute)?;
+    word(out, b" [")?;
+    word(out, &sender)?;
+    word(out, b"] ")
 }
 
 // Writes the fields back, and compares.
-fn back(f: Fields, out: &mut [u8], text: &[u8]) {
-    let w = header_writing::write(f, out);
+fn back<W: Write>(out: &mut W, f: Fields, space: &mut [u8], text: &[u8]) -> io::Result<()> {
+    let w = header_writing::write(f, space);
     let Wrote::Written(n) = w else {
-        word(b"not written\n");
-        return;
+        return word(out, b"not written\n");
     };
-    index(n);
-    if out.len() < n {
-        word(b" too long\n");
-        return;
+    index(out, n)?;
+    if space.len() < n {
+        return word(out, b" too long\n");
     }
-    if codec::same(&out[..n], text) {
-        word(b" same\n");
+    if codec::same(&space[..n], text) {
+        word(out, b" same\n")
     } else {
-        word(b" differs\n");
+        word(out, b" differs\n")
     }
 }
 
-fn one(text: &[u8]) {
+fn one<W: Write>(out: &mut W, text: &[u8]) -> io::Result<()> {
     let a = header_reading::read(text);
     let v = a.verdict;
     match v {
         ReadVerdict::Reads => {
             let f = a.fields;
-            let mut out = [0u8; 252];
-            fields(f);
-            back(f, &mut out, text);
+            let mut space = [0u8; 252];
+            fields(out, f)?;
+            back(out, f, &mut space, text)
         }
         ReadVerdict::StopsAt(n, i) => {
-            number(n);
-            word(b" at ");
-            index(i);
-            word(b"\n");
+            number(out, n)?;
+            word(out, b" at ")?;
+            index(out, i)?;
+            word(out, b"\n")
         }
     }
 }
@@ -94,23 +93,20 @@ fn line_end(input: &[u8], at: usize) -> usize
     requires { at ≤ length input.now }
     ensures { (at ≤ result) × (result ≤ length input.now) }
 {
-    let mut i = at;
-    while i < input.len() {
-        if input[i] == 10 {
-            return i;
-        }
-        i += 1;
+    match input[at..].iter().position(|b| *b == 10) {
+        Some(k) => at + k,
+        None => input.len(),
     }
-    i
 }
 
-fn texts(input: &[u8]) {
+fn texts<W: Write>(out: &mut W, input: &[u8]) -> io::Result<()> {
     let mut at: usize = 0;
     while at < input.len() {
         let e = line_end(input, at);
-        one(&input[at..e]);
+        one(out, &input[at..e])?;
         at = e + 1;
     }
+    Ok(())
 }
 
 // The writer: a good header of one place, with one thing changed at a time.
@@ -129,90 +125,98 @@ fn good() -> Fields {
     }
 }
 
-fn tried(f: Fields, out: &mut [u8]) {
-    let w = header_writing::write(f, out);
+fn tried<W: Write>(out: &mut W, f: Fields, space: &mut [u8]) -> io::Result<()> {
+    let w = header_writing::write(f, space);
     match w {
         Wrote::Written(n) => {
-            word(b"written ");
-            index(n);
+            word(out, b"written ")?;
+            index(out, n)?;
         }
         Wrote::Refused(n) => {
-            word(b"refused ");
-            number(n);
+            word(out, b"refused ")?;
+            number(out, n)?;
         }
     }
-    word(b"\n");
+    word(out, b"\n")
 }
 
-fn letters() {
-    let mut out = [0u8; 252];
+fn letters<W: Write>(out: &mut W) -> io::Result<()> {
+    let mut space = [0u8; 252];
     let mut f = good();
     f.origin = [87u8, 88u8, 84u8];
     f.event = [84u8, 111u8, 82u8];
-    tried(f, &mut out);
+    tried(out, f, &mut space)?;
     let mut g = good();
     g.event = [84u8, 111u8, 82u8];
     g.count = 0;
-    tried(g, &mut out);
+    tried(out, g, &mut space)?;
     let mut h = good();
     h.sender = [75u8, 67u8, 76u8, 69u8, 45u8, 78u8, 87u8, 83u8];
-    tried(h, &mut out);
+    tried(out, h, &mut space)
 }
 
-fn counts(n: usize) {
-    let mut out = [0u8; 252];
+fn counts<W: Write>(out: &mut W, n: usize) -> io::Result<()> {
+    let mut space = [0u8; 252];
     let mut f = good();
     f.count = n;
-    tried(f, &mut out);
+    tried(out, f, &mut space)
 }
 
-fn code(n: u32) {
-    let mut out = [0u8; 252];
+fn code<W: Write>(out: &mut W, n: u32) -> io::Result<()> {
+    let mut space = [0u8; 252];
     let mut f = good();
     f.places = [n; 31];
     f.duration = 0;
-    tried(f, &mut out);
+    tried(out, f, &mut space)
 }
 
-fn lasting(minutes: u32) {
-    let mut out = [0u8; 252];
+fn lasting<W: Write>(out: &mut W, minutes: u32) -> io::Result<()> {
+    let mut space = [0u8; 252];
     let mut f = good();
     f.duration = minutes;
-    tried(f, &mut out);
+    tried(out, f, &mut space)
 }
 
-fn issued(day: u32, hour: u32, minute: u32) {
-    let mut out = [0u8; 252];
+fn issued<W: Write>(out: &mut W, day: u32, hour: u32, minute: u32) -> io::Result<()> {
+    let mut space = [0u8; 252];
     let mut f = good();
     f.day = day;
     f.hour = hour;
     f.minute = minute;
-    tried(f, &mut out);
+    tried(out, f, &mut space)
 }
 
-fn main() {
-    let mut input = [0u8; 16384];
-    let n = io::read_full(0, &mut input);
-    texts(&input[..n]);
-    letters();
-    counts(0);
-    counts(31);
-    counts(32);
-    code(999999);
-    code(1000000);
-    lasting(15);
-    lasting(0);
-    lasting(46);
-    lasting(75);
-    lasting(5970);
-    lasting(5971);
-    issued(0, 0, 0);
-    issued(366, 23, 59);
-    issued(367, 0, 0);
-    issued(1, 24, 0);
-    issued(1, 0, 60);
+// All texts of the input, then what the writer must refuse and what it must not.
+fn run<W: Write>(out: &mut W, input: &[u8]) -> io::Result<()> {
+    texts(out, input)?;
+    letters(out)?;
+    counts(out, 0)?;
+    counts(out, 31)?;
+    counts(out, 32)?;
+    code(out, 999999)?;
+    code(out, 1000000)?;
+    lasting(out, 15)?;
+    lasting(out, 0)?;
+    lasting(out, 46)?;
+    lasting(out, 75)?;
+    lasting(out, 5970)?;
+    lasting(out, 5971)?;
+    issued(out, 0, 0, 0)?;
+    issued(out, 366, 23, 59)?;
+    issued(out, 367, 0, 0)?;
+    issued(out, 1, 24, 0)?;
+    issued(out, 1, 0, 60)?;
     let mut small = [0u8; 41];
-    tried(good(), &mut small);
+    tried(out, good(), &mut small)?;
     let mut just = [0u8; 42];
-    tried(good(), &mut just);
+    tried(out, good(), &mut just)
+}
+
+// The input's first 16,384 bytes are read.
+fn main(rt: HostRuntime) -> io::Result<()> {
+    let mut input = Vec::new(rt.alloc());
+    rt.stdin().take(16384).read_to_end(&mut input)?;
+    let mut out = BufWriter::new(rt.alloc(), io::writer(&rt))?;
+    run(&mut out, &input)?;
+    out.flush()
 }
