@@ -10,7 +10,7 @@ ghost use Rattle.burst.specs.Promise.{LeadingPromise, StripPromise, VotePromise}
 ghost use Rattle.burst.specs.Steps.{first_difference, voted_bytes, stretch, Agrees, Decides};
 
 // What the vote settles: a text of so many bytes, a number, or a number with the index that goes with it.
-#[derive(Drop)]
+#[derive(Clone, Copy)]
 pub enum Voted {
     Text(usize),
     Refused(u32),
@@ -18,7 +18,7 @@ pub enum Voted {
 }
 
 // The vote's answer: what it settled; and for the station log, granted or refused, how many bytes were dropped of each burst.
-#[derive(Drop)]
+#[derive(Clone, Copy)]
 pub struct VoteAnswer {
     pub voted: Voted,
     pub first: usize,

@@ -6,7 +6,7 @@ ghost use Rattle.laws.specs.Numbers.{dig};
 ghost use Rattle.codec.specs.Promise.{BetweenPromise, SamePromise, DigitsAtPromise, PutPromise};
 
 // What digits say: a number, or none where they are no digits or too many or do not stand there.
-#[derive(Drop)]
+#[derive(Clone, Copy)]
 pub enum Number {
     Is(u32),
     NoNumber,

@@ -3,7 +3,7 @@ ghost use Rattle.std.specs.Prelude.{◌≤◌, length};
 
 use clock::Clock;
 
-#[derive(Drop)]
+#[derive(Clone, Copy)]
 pub(crate) struct Issue {
     pub day: u32,
     pub hour: u32,

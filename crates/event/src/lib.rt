@@ -138,7 +138,7 @@ const CLASSES: [u8; 61] = [
 ];
 
 // What is known of a code: whether it is listed, and its class.
-#[derive(Drop)]
+#[derive(Clone, Copy)]
 pub struct ListedClass {
     pub listed: bool,
     pub class: u32,

@@ -20,21 +20,21 @@ pub struct Fields {
     pub sender: [u8; 8],
 }
 
-#[derive(Drop)]
+#[derive(Clone, Copy)]
 pub enum ReadVerdict {
     Reads,
     StopsAt(u32, usize),
 }
 
 // What reading answers; where it is refused, the fields are zeros.
-#[derive(Drop)]
+#[derive(Clone, Copy)]
 pub struct ReadAnswer {
     pub verdict: ReadVerdict,
     pub fields: Fields,
 }
 
 // What writing answers: how many bytes, or the number.
-#[derive(Drop)]
+#[derive(Clone, Copy)]
 pub enum Wrote {
     Written(usize),
     Refused(u32),

@@ -8,14 +8,14 @@ use codec::Number;
 
 // A step of reading: what was got, with the index after its mark; or the number and the index at which reading stops. Of one place it
 // is the code, and of a list of places how many they are.
-#[derive(Drop)]
+#[derive(Clone, Copy)]
 pub enum Step {
     Got(u32, usize),
     Stop(u32, usize),
 }
 
 // Day, hour and minute.
-#[derive(Drop)]
+#[derive(Clone, Copy)]
 pub enum Issue {
     When(u32, u32, u32),
     NoIssue,

@@ -10,7 +10,7 @@ use header::{Fields, ReadAnswer, ReadVerdict};
 use header_fields::{Issue, Step};
 
 // What stands between the places and the sender.
-#[derive(Drop)]
+#[derive(Clone, Copy)]
 struct DurationAndIssue {
     minutes: u32,
     day: u32,
@@ -20,7 +20,7 @@ struct DurationAndIssue {
 
 // Everything before the sender: how many places, duration and issue, and the index after them; or the number and the index at which
 // reading stops.
-#[derive(Drop)]
+#[derive(Clone, Copy)]
 enum FrontRead {
     Read(usize, DurationAndIssue, usize),
     Fault(u32, usize),

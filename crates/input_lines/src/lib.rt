@@ -11,7 +11,7 @@ use codec::Number;
 
 // What the next line says, and the index after its byte 10; a malformed line is 23.
 
-#[derive(Drop)]
+#[derive(Clone, Copy)]
 pub enum NowLine {
     At {
         year: u32,
@@ -23,20 +23,20 @@ pub enum NowLine {
     NoNow,
 }
 
-#[derive(Drop)]
+#[derive(Clone, Copy)]
 pub enum ClientLine {
     Client { client: u32, next: usize },
     NoClient,
 }
 
 // The header's bytes stand from index from on, up to index to.
-#[derive(Drop)]
+#[derive(Clone, Copy)]
 pub enum HeaderLine {
     Header { from: usize, to: usize, next: usize },
     NoHeader,
 }
 
-#[derive(Drop)]
+#[derive(Clone, Copy)]
 pub enum SubLine {
     Sub {
         place: u32,
@@ -48,7 +48,7 @@ pub enum SubLine {
 }
 
 // Where a line ends; or it has no byte 10, or over 300 bytes before it.
-#[derive(Drop)]
+#[derive(Clone, Copy)]
 enum Line {
     Ends(usize),
     Broken,

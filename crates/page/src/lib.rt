@@ -20,7 +20,7 @@ use page_printing::Printed;
 use report::{ReportVerdict, Summary};
 
 // The clock, the client, and where the header's bytes start and end.
-#[derive(Drop)]
+#[derive(Clone, Copy)]
 struct Three {
     at: clock::Clock,
     client: u32,
@@ -28,14 +28,14 @@ struct Three {
     to: usize,
 }
 
-#[derive(Drop)]
+#[derive(Clone, Copy)]
 enum TopLines {
     Lines(Three),
     Malformed,
 }
 
 // How many items were gathered, and whether the lines went on to their end in good form.
-#[derive(Drop)]
+#[derive(Clone, Copy)]
 struct Gathered {
     count: usize,
     whole: bool,

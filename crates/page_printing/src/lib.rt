@@ -12,7 +12,7 @@ ghost use Rattle.page_printing.specs.Steps.{Puts, head_lines, what_lines, found_
 use clock::{Phase, Stamp, Times};
 
 // How many bytes were printed; or 13.
-#[derive(Drop)]
+#[derive(Clone, Copy)]
 pub enum Printed {
     Bytes(usize),
     Refused(u32),

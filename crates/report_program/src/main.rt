@@ -12,7 +12,7 @@ use page_printing::Printed;
 use std::io::{Read, Write};
 
 // What a read brought: so many bytes more; the end of an input that has so many; or it failed.
-#[derive(Drop)]
+#[derive(Clone, Copy)]
 enum Input {
     More(usize),
     Whole(usize),

@@ -14,7 +14,7 @@ use clock::Clock;
 // What same_vote answers: the answer of 64 bits; and for the station log, granted or refused, how many bytes were dropped of each
 // burst, 0 to 16.
 #[repr(C)]
-#[derive(Drop)]
+#[derive(Clone, Copy)]
 pub struct SameVoted {
     pub answer: u64,
     pub first: u32,
