@@ -1,6 +1,8 @@
 // Each line of the input is a case: an event's code, or a call with its numbers. Prints the line, and what the calls say of it.
 #![tactic(auto)]
 
+ghost use Rattle.std.specs.Prelude.{IfOk, ◌≤◌, length};
+
 mod asked;
 mod said;
 mod shown;
@@ -8,7 +10,7 @@ mod shown;
 use asked::word;
 use shown::{mark, say};
 use std::io;
-use std::io::{BufWriter, Read, Write};
+use std::io::{Read, Write};
 
 // A code: whether it is listed, and its class, from the two calls and from the one that says both.
 fn event<W: Write>(out: &mut W, a: u8, b: u8, c: u8) -> io::Result<()> {
@@ -70,10 +72,23 @@ fn cases<W: Write>(out: &mut W, input: &[u8]) -> io::Result<()> {
 }
 
 // The input's first 8,192 bytes are read.
+// Reads an input until it ends or the space is full. Says how many bytes it brought.
+fn read_full<R: Read>(input: &mut R, space: &mut [u8]) -> io::Result<usize>
+    ensures { IfOk result (λ n. n ≤ length space.new) }
+{
+    let mut n: usize = 0;
+    while n < space.len() {
+        let k = input.read(&mut space[n..])?;
+        if k == 0 {
+            return Ok(n);
+        }
+        n += k;
+    }
+    Ok(n)
+}
+
 fn main(rt: HostRuntime) -> io::Result<()> {
-    let mut input = Vec::new(rt.alloc());
-    rt.stdin().take(8192).read_to_end(&mut input)?;
-    let mut out = BufWriter::new(rt.alloc(), io::writer(&rt))?;
-    cases(&mut out, &input)?;
-    out.flush()
+    let mut input = [0u8; 8192];
+    let n = read_full(&mut rt.stdin(), &mut input)?;
+    cases(&mut rt.stdout(), &input[..n])
 }

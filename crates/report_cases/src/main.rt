@@ -1,22 +1,34 @@
 // Prints the page of each input 001 to 118, behind a line `-- NNN`.
 #![tactic(auto)]
 
+ghost use Rattle.std.specs.Prelude.{IfOk, ◌≤◌, length};
+
 use page_printing::Printed;
-use std::alloc::Allocator;
-use std::io::{BufWriter, Read, Write};
+use std::io::{Read, Write};
 use std::rt::Files;
 use std::{fs, io};
 
+// Reads an input until it ends or the space is full. Says how many bytes it brought.
+fn read_full<R: Read>(input: &mut R, space: &mut [u8]) -> io::Result<usize>
+    ensures { IfOk result (λ n. n ≤ length space.new) }
+{
+    let mut n: usize = 0;
+    while n < space.len() {
+        let k = input.read(&mut space[n..])?;
+        if k == 0 {
+            return Ok(n);
+        }
+        n += k;
+    }
+    Ok(n)
+}
+
 // The page of what a file holds: of its first 98,304 bytes.
-fn print_page<A: Allocator, R: Read + Drop, W: Write>(
-    alloc: A,
-    file: R,
-    out: &mut W,
-) -> io::Result<()> {
-    let mut input = Vec::new(alloc);
-    file.take(98304).read_to_end(&mut input)?;
+fn print_page<R: Read, W: Write>(file: &mut R, out: &mut W) -> io::Result<()> {
+    let mut input = [0u8; 98304];
+    let n = read_full(file, &mut input)?;
     let mut space = [0u8; 65536];
-    let answer = page::page(&input, &mut space);
+    let answer = page::page(&input[..n], &mut space);
     let Printed::Bytes(k) = answer else {
         return Ok(());
     };
@@ -33,7 +45,7 @@ fn print_file<R: Files + Alloc, W: Write>(rt: &R, out: &mut W, name: &[u8]) -> i
         Err(_) => None,
     };
     match file {
-        Some(file) => print_page(rt.alloc(), file, out),
+        Some(mut file) => print_page(&mut file, out),
         None => out.write_all(b"no such input\n"),
     }
 }
@@ -47,9 +59,8 @@ fn print_case<R: Files + Alloc, W: Write>(rt: &R, out: &mut W, n: u8) -> io::Res
 }
 
 fn main(rt: HostRuntime) -> io::Result<()> {
-    let mut out = BufWriter::new(rt.alloc(), io::writer(&rt))?;
     for n in 1..119 {
-        print_case(&rt, &mut out, n)?;
+        print_case(&rt, &mut rt.stdout(), n)?;
     }
-    out.flush()
+    Ok(())
 }
