@@ -139,6 +139,7 @@ fn now_of(line: &[u8], next: usize) -> NowLine
 }
 
 // `client=0007`
+#[tactic(auto, using(crate::proofs::Forms::client_length))]
 fn client_of(line: &[u8], next: usize) -> ClientLine
     ensures { said_client result ≡ form_says client_line line.now next }
 {
