@@ -11,7 +11,7 @@ ghost use Rattle.std.specs.Prelude.{IfOk, ◌≤◌, length};
 use burst::{VoteAnswer, Voted};
 use codec::Number;
 use std::io;
-use std::io::{Read, Write};
+use std::io::Write;
 
 const MARKS: [u8; 8] = *b"<!\"#$%&'";
 
@@ -190,23 +190,8 @@ fn run<W: Write>(out: &mut W, input: &mut [u8]) -> io::Result<()> {
 }
 
 // The input's first 8,192 bytes are read.
-// Reads an input until it ends or the space is full. Says how many bytes it brought.
-fn read_full<R: Read>(input: &mut R, space: &mut [u8]) -> io::Result<usize>
-    ensures { IfOk result (λ n. n ≤ length space.new) }
-{
-    let mut n: usize = 0;
-    while n < space.len() {
-        let k = input.read(&mut space[n..])?;
-        if k == 0 {
-            return Ok(n);
-        }
-        n += k;
-    }
-    Ok(n)
-}
-
 fn main(rt: HostRuntime) -> io::Result<()> {
     let mut input = [0u8; 8192];
-    let n = read_full(&mut rt.stdin(), &mut input)?;
+    let n = reading::read_input(&mut rt.stdin(), &mut input)?;
     run(&mut rt.stdout(), &mut input[..n])
 }

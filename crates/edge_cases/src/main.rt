@@ -10,7 +10,7 @@ mod shown;
 use asked::word;
 use shown::{mark, say};
 use std::io;
-use std::io::{Read, Write};
+use std::io::Write;
 
 // A code: whether it is listed, and its class, from the two calls and from the one that says both.
 fn event<W: Write>(out: &mut W, a: u8, b: u8, c: u8) -> io::Result<()> {
@@ -72,23 +72,8 @@ fn cases<W: Write>(out: &mut W, input: &[u8]) -> io::Result<()> {
 }
 
 // The input's first 8,192 bytes are read.
-// Reads an input until it ends or the space is full. Says how many bytes it brought.
-fn read_full<R: Read>(input: &mut R, space: &mut [u8]) -> io::Result<usize>
-    ensures { IfOk result (λ n. n ≤ length space.new) }
-{
-    let mut n: usize = 0;
-    while n < space.len() {
-        let k = input.read(&mut space[n..])?;
-        if k == 0 {
-            return Ok(n);
-        }
-        n += k;
-    }
-    Ok(n)
-}
-
 fn main(rt: HostRuntime) -> io::Result<()> {
     let mut input = [0u8; 8192];
-    let n = read_full(&mut rt.stdin(), &mut input)?;
+    let n = reading::read_input(&mut rt.stdin(), &mut input)?;
     cases(&mut rt.stdout(), &input[..n])
 }
