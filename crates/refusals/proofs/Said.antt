@@ -3,7 +3,7 @@ use Rattle.std.specs.Prelude.{◌≡◌, true, Result, Ok, Err, IsErr, IsErrAnd}
 use mathlib.Core.Path.{refl, sym, ap, ◌∙◌}
 use Rattle.laws.proofs.Tests.{impossible}
 use Rattle.laws.proofs.Order.{refusal_leaves}
-use Rattle.laws.specs.Order.{Said, granted, is_refusal, next}
+use Rattle.laws.specs.Order.{Said, granted, refused, is_refusal, next}
 use Rattle.laws.specs.Space.{leaves}
 use Rattle.refusals.specs.Refusals.{says, said}
 use Rattle.refusals.specs.declared.Refusal.{Refusal}
@@ -84,3 +84,7 @@ leaves_refused {A} effect e d = refusal_leaves effect (says e) d (says_refused A
 pub handed_on : {A : Type 0} {s : Said A} (e : Refusal) (r : Result A Refusal) → IsErr r × IsErrAnd r (λ y. y ≡ e) → says e ≡ s → said r ≡ s
 handed_on e (Ok a) h p = absurd h.1
 handed_on e (Err y) h p = ap says h.1 ∙ p
+
+-- what it says, it says of every kind of value
+pub says_moved : {A B : Type 0} (e : Refusal) (s : Said A) → says e ≡ s → next {B = B} s (λ a. refused 0) ≡ says e
+says_moved e s p = ap (λ s. next s (λ a. refused 0)) (sym p) ∙ next_refused e (λ a. refused 0)

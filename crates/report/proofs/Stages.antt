@@ -17,8 +17,7 @@ use Rattle.std.specs.Prelude.{Result, Ok, Err}
 use Rattle.refusals.specs.Refusals.{says, said}
 use Rattle.refusals.specs.declared.Refusal.{Refusal}
 use Rattle.refusals.specs.declared.Refusal.TheVariants.{NoRoom, BadBook, BadClient}
-use Rattle.refusals.proofs.Apart.{says_one}
-use Rattle.refusals.proofs.Said.{next_refused, leaves_refused, never_granted}
+use Rattle.refusals.proofs.Said.{next_refused, leaves_refused, never_granted, says_moved}
 use Rattle.header.specs.Answers.{alert_in, fields_of, fields_for, fields_read, said_read}
 use Rattle.header.specs.Promise.{ReadPromise}
 use Rattle.header.specs.declared.Fields.{Fields}
@@ -47,11 +46,6 @@ use Rattle.report.proofs.Found.{hits_found}
 use Rattle.header.proofs.Callers.{Allowed, allowed}
 use Rattle.header.proofs.Round.{read_form}
 
--- ---- what says 13 in one kind of answer says it in the other
-
-says_thirteen : (e : Refusal) → says {A = ℕ} e ≡ refused 13 → says {A = Summary} e ≡ refused 13
-says_thirteen e p = ap (says {A = Summary}) (says_one {A = ℕ} e NoRoom p)
-
 -- ---- once the times are known
 
 module _ (times : Times) (a : Alert) (hits : List Sub) (out : List ℕ) where
@@ -70,13 +64,13 @@ module _ (times : Times) (a : Alert) (hits : List Sub) (out : List ℕ) where
   is_all n true e = clash cc
   is_all n false e = (refl, cc)
 
-  pub short : (e : Refusal) (r : Result ℕ Refusal) (left : List ℕ) → ListsHits hits out r left → r ≡ Err e → TimedReport times a hits out (Err e) left
+  pub short : (e : Refusal) (r : Result ℕ Refusal) (left : List ℕ) (answer : Result Summary Refusal) → ListsHits hits out r left → r ≡ Err e
+      → said answer ≡ says e → TimedReport times a hits out answer left
   unfolding timed_says
-  short e r left l p =
+  short e r left answer l p h =
       let q : says e ≡ room_says short_of = sym (ap said p) ∙ l.says in
       let b : short_of ≡ true = is_short e short_of (sym q) in
-      let same : says e ≡ refused {A = ℕ} 13 = q ∙ rw b in
-      record { says = says_thirteen e same ∙ rw b; lent = l.lent ∙ rw b }
+      record { says = h ∙ sym (says_moved e (refused 13) (q ∙ rw b)) ∙ rw b; lent = l.lent ∙ rw b }
 
   abbrev summary_with : ℕ → Summary
   summary_with n = record { times = times; event = a.event; listed = is_listed a.event; class = class_of a.event; hits = n }
@@ -127,11 +121,11 @@ module _ (at : Clock) (f : Fields) (fine : Readable f) (hits : List Sub) (out : 
       by true false p q = fourteen_second p q ∙ after _ (no_day_refused at f.day f.hour f.minute f.duration fine.issue fine.lasts p q)
       by true true p q = room_last p q ∙ after _ (timed at f.day f.hour f.minute f.duration fine.issue fine.lasts p q)
 
-  pub untimely : (e : Refusal) → timed_is ≡ says e → AlertReport at (alert_in f) hits out (Err e) out
-  untimely e p =
+  pub untimely : (e : Refusal) (r : Result Summary Refusal) → timed_is ≡ says e → said r ≡ says e → AlertReport at (alert_in f) hits out r out
+  untimely e r p h =
       let q : whole ≡ says e = alert_is ∙ ap (λ (o : Said Times). next o rest) p ∙ next_refused e rest in
       record {
-        says = sym (ap answer_says q ∙ next_refused e (λ g. granted g.summary));
+        says = h ∙ sym (ap answer_says q ∙ next_refused e (λ g. granted g.summary));
         lent = sym (ap (λ (s : Said Full). leaves writes_hits s out) q ∙ leaves_refused writes_hits e out);
       }
 
@@ -169,10 +163,10 @@ module _ (book : List ℕ) (client : ℕ) (text : List ℕ) (at : Clock) (out : 
       unfolding list_says
       past_client = past_book ∙ rw b
 
-      pub no_header : (e : Refusal) → read_says text ≡ says e → ReportPromise book client text at out (Err e) out
-      no_header e p =
-          stopped (says e) (Err e) out (past_client ∙ ap (λ (s : Said Alert). next s on_alert) p ∙ next_refused e on_alert)
-          (sym (next_refused e (λ g. granted g.summary))) (sym (leaves_refused writes_hits e out))
+      pub no_header : (e : Refusal) (r : Result Summary Refusal) → read_says text ≡ says e → said r ≡ says e → ReportPromise book client text at out r out
+      no_header e r p h =
+          stopped (says e) r out (past_client ∙ ap (λ (s : Said Alert). next s on_alert) p ∙ next_refused e on_alert)
+          (h ∙ sym (next_refused e (λ g. granted g.summary))) (sym (leaves_refused writes_hits e out))
 
       pub with_header : (a : Alert) (r : Result Summary Refusal) (left : List ℕ) → read_says text ≡ granted a
           → AlertReport at a (hits_of client a (subs form book)) out r left → ReportPromise book client text at out r left
