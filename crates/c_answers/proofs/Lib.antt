@@ -1,3 +1,4 @@
 pub mod Packs
 pub mod Keeps
+pub mod Instances
 pub mod NoChoice

@@ -1,66 +1,87 @@
 // Answers for callers outside: what a call says as one number of 64 bits.
-#![tactic(auto)]
+#![tactic(auto, unfolding(crate::specs::Answer::in_halves))]
 
-ghost use Rattle.std.specs.Prelude.{◌≡◌};
-ghost use Rattle.c_answers.specs.Promise.{CapPromise, AnswerPromise, VotedPromise, EditedPromise, PrintedPromise, WrotePromise, YesPromise};
+ghost use Rattle.std.specs.Prelude.{◌≡◌, ℕ};
+ghost use Rattle.laws.specs.Order.{Said, granted, refused, refused_at};
+ghost use Rattle.refusals.specs.Refusals.{says};
+ghost use Rattle.c_answers.specs.Answer.{in_halves};
+ghost use Rattle.c_answers.specs.Promise.{CapPromise, AnswerPromise, ToldPromise, YesPromise};
 
-use book_edits::Edited;
-use burst::Voted;
-use header::Wrote;
-use page_printing::Printed;
+use refusals::Refusal;
 
 // The value, or the highest that a half holds.
 pub fn cap(v: usize) -> u32
     ensures { CapPromise v result }
 {
-    if v < 4294967295 { v as u32 } else { 4294967295 }
+    u32::try_from(v).unwrap_or(u32::MAX)
 }
 
 // A number in the low half, and the size or index that is named with it in the high half.
 pub fn answer(number: u32, named: usize) -> u64
     ensures { AnswerPromise number named result }
 {
-    (number as u64) + (cap(named) as u64) * 4294967296
+    u64::from(number) + u64::from(cap(named)) * 4294967296
 }
 
-// What a vote says, as one number.
-pub fn voted(v: Voted) -> u64
-    ensures { VotedPromise v result }
-{
-    match v {
-        Voted::Text(n) => answer(0, n),
-        Voted::Refused(n) => answer(n, 0),
-        Voted::RefusedAt(n, i) => answer(n, i),
+// What a value or an error says, in the two halves of an answer.
+pub trait Halves {
+    ghost said_of: { Self → Said ℕ };
+
+    fn halves(self) -> u64
+        ensures { result ≡ in_halves (said_of self) };
+}
+
+// A size: no number, and the size.
+impl Halves for usize {
+    ghost said_of = { λ n. granted n };
+
+    fn halves(self) -> u64 {
+        answer(0, self)
     }
 }
 
-// What an edit says, as one number; it names nothing where it is done.
-pub fn edited(e: Edited) -> u64
-    ensures { EditedPromise e result }
-{
-    match e {
-        Edited::Done => 0,
-        Edited::Refused(n) => answer(n, 0),
+// Nothing is named.
+impl Halves for () {
+    ghost said_of = { λ _. granted 0 };
+
+    fn halves(self) -> u64 {
+        answer(0, 0)
     }
 }
 
-// What printing says, as one number.
-pub fn printed(p: Printed) -> u64
-    ensures { PrintedPromise p result }
-{
-    match p {
-        Printed::Bytes(n) => answer(0, n),
-        Printed::Refused(n) => answer(n, 0),
+// A refusal by its number alone.
+impl Halves for u32 {
+    ghost said_of = { λ n. refused n };
+
+    fn halves(self) -> u64 {
+        answer(self, 0)
     }
 }
 
-// What writing a text says, as one number.
-pub fn wrote(w: Wrote) -> u64
-    ensures { WrotePromise w result }
+// A refusal by its number, and an index.
+impl Halves for (u32, usize) {
+    ghost said_of = { λ r. refused_at r.0 r.1 };
+
+    fn halves(self) -> u64 {
+        answer(self.0, self.1)
+    }
+}
+
+impl Halves for Refusal {
+    ghost said_of = { λ e. says e };
+
+    fn halves(self) -> u64 {
+        answer(self.number(), self.index().unwrap_or(0))
+    }
+}
+
+// What a call's result says, as one number.
+pub fn told<T: Halves, E: Halves>(r: Result<T, E>) -> u64
+    ensures { ToldPromise T.said_of E.said_of r result }
 {
-    match w {
-        Wrote::Written(n) => answer(0, n),
-        Wrote::Refused(n) => answer(n, 0),
+    match r {
+        Ok(v) => v.halves(),
+        Err(e) => e.halves(),
     }
 }
 
@@ -68,5 +89,5 @@ pub fn wrote(w: Wrote) -> u64
 pub fn yes(b: bool) -> u32
     ensures { YesPromise b result }
 {
-    if b { 1 } else { 0 }
+    u32::from(b)
 }

@@ -8,6 +8,7 @@ use native.Mathlib.Omega.{arith}
 use lib.ListN.{length, length-append}
 use lib.Dec.{ltb}
 use borrow.Author.Tests.{lt-ltb, le-ltb}
+use Rattle.std.specs.Prelude.{Result, Ok, Err}
 use Rattle.laws.specs.Order.{granted}
 use Rattle.laws.specs.Space.{pasted}
 use Rattle.laws.specs.Text.{ascii}
@@ -16,10 +17,11 @@ use Rattle.codec.specs.Promise.{PutPromise}
 use Rattle.codec.proofs.Puts.{put_fits}
 use Rattle.page_lines.specs.Lines.{text_line}
 use Rattle.page_printing.specs.Page.{line, ended}
-use Rattle.page_printing.specs.Promise.{print_says, said_printed, PrintPromise}
+use Rattle.refusals.specs.Refusals.{said}
+use Rattle.refusals.specs.declared.Refusal.{Refusal}
+use Rattle.refusals.specs.declared.Refusal.TheVariants.{NoRoom}
+use Rattle.page_printing.specs.Promise.{print_says, PrintPromise}
 use Rattle.page_printing.specs.Steps.{Puts}
-use Rattle.page_printing.specs.declared.Printed.{Printed}
-use Rattle.page_printing.specs.declared.Printed.TheVariants.{Bytes, Refused}
 
 -- ---- lines
 
@@ -73,13 +75,13 @@ module _ {d₀ whole d : List ℕ} {at : ℕ} (word : String) (says : List ℕ) 
 
 -- ---- a text at the front of lent space, or 13
 
-pub print_short : (text d : List ℕ) → length d < length text → PrintPromise text d (Refused 13) d
+pub print_short : (text d : List ℕ) → length d < length text → PrintPromise text d (Err NoRoom) d
 unfolding print_says
 print_short text d h =
     let e : ltb (length d) (length text) ≡ true = lt-ltb (length d) (length text) h in
     record { says = simp e; space = simp e }
 
-pub print_all : {text d d' : List ℕ} {r : ℕ} → length text ≤ length d → Puts d 0 text d' r → PrintPromise text d (Bytes r) d'
+pub print_all : {text d d' : List ℕ} {r : ℕ} → length text ≤ length d → Puts d 0 text d' r → PrintPromise text d (Ok r) d'
 unfolding print_says
 print_all {text} {d} h p =
     let e : ltb (length d) (length text) ≡ false = le-ltb (length d) (length text) h in
@@ -87,11 +89,11 @@ print_all {text} {d} h p =
 
 -- ---- what callers learn of it
 
-pub print_as : {text text' d d' : List ℕ} {r : Printed} → text ≡ text' → PrintPromise text d r d' → PrintPromise text' d r d'
+pub print_as : {text text' d d' : List ℕ} {r : Result ℕ Refusal} → text ≡ text' → PrintPromise text d r d' → PrintPromise text' d r d'
 print_as e p = rw (← e) p
 
-pub print_fits : {text d d' : List ℕ} {r : Printed} → PrintPromise text d r d' → length text ≤ length d
-    → (said_printed r ≡ granted (length text)) × (d' ≡ pasted d 0 text)
+pub print_fits : {text d d' : List ℕ} {r : Result ℕ Refusal} → PrintPromise text d r d' → length text ≤ length d
+    → (said r ≡ granted (length text)) × (d' ≡ pasted d 0 text)
 unfolding print_says
 print_fits {text} {d} p h =
     let e : ltb (length d) (length text) ≡ false = le-ltb (length d) (length text) h in

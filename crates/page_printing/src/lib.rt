@@ -10,13 +10,7 @@ ghost use Rattle.page_printing.specs.Promise.{PrintPromise};
 ghost use Rattle.page_printing.specs.Steps.{Puts, head_lines, what_lines, found_lines, page_length};
 
 use clock::{Phase, Stamp, Times};
-
-// How many bytes were printed; or 13.
-#[derive(Clone, Copy)]
-pub enum Printed {
-    Bytes(usize),
-    Refused(u32),
-}
+use refusals::Refusal;
 
 // These put lines at index at, in space that has room for them, and answer the index after them.
 
@@ -128,16 +122,16 @@ fn has_room(room: usize, listed: bool, phase: Phase, w: usize, event: usize, n: 
 }
 
 // Prints a refusal's one line to the front of out, and says its length; or 13 where it does not fit, and nothing is written.
-pub fn print_refusal(out: &mut [u8], number: u32) -> Printed
+pub fn print_refusal(out: &mut [u8], number: u32) -> Result<usize, Refusal>
     ensures { PrintPromise (refused_text number) out.old result out.new }
 {
     let n = number as usize;
     let w = page_lines::size_of(n);
     if out.len() < 9 + w {
-        return Printed::Refused(13);
+        return Err(Refusal::NoRoom);
     }
     page_lines::put_number(out, 0, b"refused=", n, w);
-    Printed::Bytes(9 + w)
+    Ok(9 + w)
 }
 
 // Prints a report's page to the front of out, and says its length; or 13 where it does not fit, and nothing is written. Hits are pairs of place and wish.
@@ -149,7 +143,7 @@ pub fn print_page(
     listed: bool,
     class: u32,
     hits: &[u32],
-) -> Printed
+) -> Result<usize, Refusal>
     ensures { PrintPromise (page_text client times event.now listed class hits.now) out.old result out.new }
 {
     let issued = times.issued;
@@ -158,9 +152,9 @@ pub fn print_page(
     let n = hits.len() / 2;
     let w = page_lines::size_of(n);
     if !has_room(out.len(), listed, phase, w, event.len(), n) {
-        return Printed::Refused(13);
+        return Err(Refusal::NoRoom);
     }
     put_head(out, client, issued, until);
     let e = put_what(out, 49, event, listed, class, phase);
-    Printed::Bytes(put_found(out, e, w, hits))
+    Ok(put_found(out, e, w, hits))
 }
