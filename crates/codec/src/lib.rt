@@ -5,13 +5,6 @@ ghost use Rattle.std.specs.Prelude.{◌≡◌, ◌∷◌, []};
 ghost use Rattle.laws.specs.Numbers.{dig};
 ghost use Rattle.codec.specs.Promise.{BetweenPromise, SamePromise, DigitsAtPromise, PutPromise};
 
-// What digits say: a number, or none where they are no digits or too many or do not stand there.
-#[derive(Clone, Copy)]
-pub enum Number {
-    Is(u32),
-    NoNumber,
-}
-
 fn wide(b: u8) -> u32
     ensures { result ≡ b }
 {
@@ -47,29 +40,29 @@ pub fn same(a: &[u8], b: &[u8]) -> bool
 
 // The number that the width digits at index at make; none where one is no digit, where fewer bytes stand there, or where width is
 // over 9, so that it fits.
-pub fn digits_at(text: &[u8], at: usize, width: usize) -> Number
+pub fn digits_at(text: &[u8], at: usize, width: usize) -> Option<u32>
     ensures { DigitsAtPromise text.now at width result }
 {
     if 9 < width {
-        return Number::NoNumber;
+        return None;
     }
     if text.len() < at {
-        return Number::NoNumber;
+        return None;
     }
     if text.len() - at < width {
-        return Number::NoNumber;
+        return None;
     }
     let mut n: u32 = 0;
     let mut k: usize = 0;
     while k < width {
         let b = text[at + k];
         if !between(48, 57, b) {
-            return Number::NoNumber;
+            return None;
         }
         n = n * 10 + (wide(b) - 48);
         k += 1;
     }
-    Number::Is(n)
+    Some(n)
 }
 
 // Puts one byte at index at and says yes, or says no where there is no room for it and writes nothing.

@@ -62,16 +62,12 @@ fn case<W: Write>(out: &mut W, line: &[u8]) -> io::Result<()> {
 }
 
 fn cases<W: Write>(out: &mut W, input: &[u8]) -> io::Result<()> {
-    let mut at: usize = 0;
-    while at < input.len() {
-        let e = asked::find(input, at, b'\n');
-        case(out, &input[at..e])?;
-        at = e + 1;
+    for line in input.split_inclusive(|b| *b == b'\n') {
+        case(out, line.strip_suffix(b"\n").unwrap_or(line))?;
     }
     Ok(())
 }
 
-// The input's first 8,192 bytes are read.
 // Reads an input until it ends or the space is full. Says how many bytes it brought.
 fn read_full<R: Read>(input: &mut R, space: &mut [u8]) -> io::Result<usize>
     ensures { IfOk result (λ n. n ≤ length space.new) }
@@ -87,6 +83,7 @@ fn read_full<R: Read>(input: &mut R, space: &mut [u8]) -> io::Result<usize>
     Ok(n)
 }
 
+// The input's first 8,192 bytes are read.
 fn main(rt: HostRuntime) -> io::Result<()> {
     let mut input = [0u8; 8192];
     let n = read_full(&mut rt.stdin(), &mut input)?;

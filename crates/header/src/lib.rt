@@ -20,26 +20,6 @@ pub struct Fields {
     pub sender: [u8; 8],
 }
 
-#[derive(Clone, Copy)]
-pub enum ReadVerdict {
-    Reads,
-    StopsAt(u32, usize),
-}
-
-// What reading answers; where it is refused, the fields are zeros.
-#[derive(Clone, Copy)]
-pub struct ReadAnswer {
-    pub verdict: ReadVerdict,
-    pub fields: Fields,
-}
-
-// What writing answers: how many bytes, or the number.
-#[derive(Clone, Copy)]
-pub enum Wrote {
-    Written(usize),
-    Refused(u32),
-}
-
 fn sender_byte(b: u8) -> bool
     ensures { result ≡ is_sender_byte b }
 {
