@@ -1,8 +1,6 @@
 // Each line of the input is a case: an event's code, or a call with its numbers. Prints the line, and what the calls say of it.
 #![tactic(auto)]
 
-ghost use Rattle.std.specs.Prelude.{IfOk, ◌≤◌, length};
-
 mod asked;
 mod said;
 mod shown;
@@ -62,11 +60,8 @@ fn case<W: Write>(out: &mut W, line: &[u8]) -> io::Result<()> {
 }
 
 fn cases<W: Write>(out: &mut W, input: &[u8]) -> io::Result<()> {
-    let mut at: usize = 0;
-    while at < input.len() {
-        let e = asked::find(input, at, b'\n');
-        case(out, &input[at..e])?;
-        at = e + 1;
+    for line in input.split_inclusive(|b| *b == b'\n') {
+        case(out, line.strip_suffix(b"\n").unwrap_or(line))?;
     }
     Ok(())
 }
