@@ -1,5 +1,5 @@
 -- Each test that fails is a reason why the field is not allowed; where all hold, day, hour and minute are the value.
-use mathlib.Core.Path.{◌≡◌, sym, ◌∙◌}
+use mathlib.Core.Path.{sym, ◌∙◌}
 use Prim.Native.Nat.{◌+◌}
 use native.Mathlib.Omega.{arith}
 use borrow.Author.Tests.{ltb-true}
@@ -44,7 +44,7 @@ returns-then-mark-ne45 c =
     let a = c.args in
     let all = a_moment a.text.now a.at _ _ _ c.in_ok-day.ensures.says c.in_ok-hour.ensures.says c.in_ok-minute.ensures.says in
     elim c.then-mark-ne45.branch [
-      then-mark-ne45-via-then-mark-ne45 w ↦
+      | then-mark-ne45-via-then-mark-ne45 w ↦
           record { says = not_marked issue a.text.now a.at 10 _ (c.in_ok-mark.ensures.lookup.4 (omega arith) 0) w.if-mark-ne45.true }
       | then-mark-ne45-via-else-mark-ne45+then-not-is_issue w ↦
           record { says = not_allowed issue a.text.now a.at 10 (all.test ∙ sym w.is_issue.ensures.says ∙ w.if-not-is_issue.true) }

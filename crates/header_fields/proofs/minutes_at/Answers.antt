@@ -1,11 +1,10 @@
 -- Each test that fails is a reason why the field is not allowed; where all hold, hours and minutes are the value.
-use mathlib.Core.Path.{◌≡◌, sym, ◌∙◌}
+use mathlib.Core.Path.{sym, ◌∙◌}
 use Prim.Native.Nat.{◌+◌}
 use native.Mathlib.Omega.{arith}
 use borrow.Author.Tests.{ltb-true}
 use Rattle.codec.proofs.Numbers.{number_inside}
 use Rattle.header.specs.Header.{duration}
-use Rattle.header.proofs.Round.{hours, minutes}
 use Rattle.header_fields.proofs.Marks.{stops_short, no_room, no_number, not_allowed, not_marked, stands}
 use Rattle.header_fields.proofs.Numbers.{no_hours, no_minutes, a_duration}
 use Rattle.header_fields.proofs.minutes_at.Goals.{then-mark-ne45-via-then-mark-ne45, then-mark-ne45-via-else-mark-ne45+then-not-is_duration_of}
@@ -37,7 +36,7 @@ returns-then-mark-ne45 c =
     let a = c.args in
     let both = a_duration a.text.now a.at _ _ c.in_ok-h.ensures.says c.in_ok-m.ensures.says in
     elim c.then-mark-ne45.branch [
-      then-mark-ne45-via-then-mark-ne45 w ↦
+      | then-mark-ne45-via-then-mark-ne45 w ↦
           record { says = not_marked duration a.text.now a.at 9 _ (c.in_ok-mark.ensures.lookup.4 (omega arith) 0) w.if-mark-ne45.true }
       | then-mark-ne45-via-else-mark-ne45+then-not-is_duration_of w ↦
           record { says = not_allowed duration a.text.now a.at 9 (both.test ∙ sym w.is_duration_of.ensures.says ∙ w.if-not-is_duration_of.true) }

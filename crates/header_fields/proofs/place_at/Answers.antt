@@ -1,6 +1,6 @@
 -- Each test that fails is a reason why no place stands there; where the digits and either mark do, the code is got.
 use mathlib.Core.Path.{◌≡◌, sym, ap, ◌∙◌}
-use Prim.Native.Nat.{ℕ, ◌+◌, ◌-◌, ◌≤◌, ◌<◌}
+use Prim.Native.Nat.{ℕ, ◌+◌, ◌≤◌, ◌<◌}
 use mathlib.Core.List.{List}
 use mathlib.Core.Bool.{Bool, true, false, or-true}
 use mathlib.Core.Logic.{⊎_elim}
@@ -8,12 +8,9 @@ use native.Mathlib.Omega.{arith}
 use borrow.Author.Tests.{eq-eqb, ne_eqb, ltb-true, ltb-false}
 use lib.Dec.{ltb}
 use lib.ListN.{length, get_or, drop}
-use Rattle.std.specs.Prelude.{Option, Some, None, Result, Ok, Err}
-use Rattle.std.specs.Result.{IsErrAnd}
-use Rattle.std.specs.Option.{ok_or}
-use Rattle.std.proofs.lemmas.Result.{err_from_is_err_and}
+use Rattle.std.specs.Prelude.{Some, None, Ok, Err}
 use Rattle.laws.proofs.Tests.{le_or_lt}
-use Rattle.refusals.specs.declared.Refusal.{Refusal}
+use Rattle.laws.proofs.Handed.{handed_or}
 use Rattle.refusals.specs.declared.Refusal.TheVariants.{NoPlaceAt}
 use Rattle.codec.specs.Codec.{fits, either}
 use Rattle.codec.specs.Promise.{number_at}
@@ -36,9 +33,9 @@ module _ (t : List ℕ) (at : ℕ) where
 
   no_code : None ≡ number_at t at 6 → PlaceAtPromise t at (Err (NoPlaceAt at))
   no_code e = none (
-    ⊎_elim (λ (s : length t < at + 6). short place mark t at (omega arith))
-    (λ (r : at + 6 ≤ length t). bad place mark t at (number_none t at 6 (omega arith) r (sym e))) (le_or_lt (length t) (at + 6))
-  )
+      ⊎_elim (λ (s : length t < at + 6). short place mark t at (omega arith))
+      (λ (r : at + 6 ≤ length t). bad place mark t at (number_none t at 6 (omega arith) r (sym e))) (le_or_lt (length t) (at + 6))
+      )
 
   module _ (code : ℕ) (e : Some code ≡ number_at t at 6) where
     no_more : false ≡ ltb (at + 6) (length t) → PlaceAtPromise t at (Err (NoPlaceAt at))
@@ -53,20 +50,11 @@ module _ (t : List ℕ) (at : ℕ) where
           let d = number_is t at 6 code (sym e) in
           record { says = ap told (step_yes 8 place mark t at code (good place mark t at (goes_on place t at (ltb-true _ _ (sym l))) d.0 (ap mark (sym q) ∙ m)) d.1) }
 
--- the refusal that a `?` hands on
-handed : {A : Type 0} {o : Option A} (at : ℕ) (r : Result (ℕ × ℕ) Refusal) (e : Refusal) → IsErrAnd r (λ y. y ≡ e) → Err e ≡ ok_or o (NoPlaceAt at) → o ≡ None
-    → r ≡ Err (NoPlaceAt at)
-handed {A} at r e f v n =
-    let p = err_from_is_err_and r f in
-    let q : ◌≡◌ {A = Result A Refusal} (Err e) (Err (NoPlaceAt at)) = v ∙ ap (λ (x : Option A). ok_or x (NoPlaceAt at)) n in
-    let w : e ≡ NoPlaceAt at = cc in
-    p.1 ∙ ap Err (p.2 ∙ w)
-
 pub returns-in_err-code : goal.returns-in_err-code
 returns-in_err-code c =
     let a = c.args in
     let e = c.in_err-code.ensures in
-    rw (handed a.at c.from_residual.result _ c.from_residual.ensures.1 e.value e.ok_part) (no_code a.text.now a.at (sym e.ok_part ∙ c.digits_at.ensures.says))
+    rw (handed_or c.from_residual.result _ (NoPlaceAt a.at) c.from_residual.ensures.1 e.value e.ok_part) (no_code a.text.now a.at (sym e.ok_part ∙ c.digits_at.ensures.says))
 
 pub overflow_add-at : goal.overflow_add-at
 overflow_add-at c = omega (arith, number_inside _ _ _ (sym c.digits_at.ensures.says ∙ c.in_ok-code.ensures.ok_part))
@@ -77,7 +65,7 @@ returns-in_err-mark c =
     let e = c.in_err-mark.ensures in
     let code = sym c.in_ok-code.ensures.ok_part ∙ c.digits_at.ensures.says in
     let seen = rw e.ok_part at c.get.ensures.lookup in
-    rw (handed a.at c.from_residual-in_err-mark.result _ c.from_residual-in_err-mark.ensures.1 e.value e.ok_part) (no_more a.text.now a.at _ code seen.0)
+    rw (handed_or c.from_residual-in_err-mark.result _ (NoPlaceAt a.at) c.from_residual-in_err-mark.ensures.1 e.value e.ok_part) (no_more a.text.now a.at _ code seen.0)
 
 pub returns-then-mark-ne43 : goal.returns-then-mark-ne43
 returns-then-mark-ne43 c =
@@ -93,6 +81,6 @@ returns c =
     let code = sym c.in_ok-code.ensures.ok_part ∙ c.digits_at.ensures.says in
     let one = one a.text.now a.at _ code _ (seen.4 (omega arith) 0) seen.0 in
     elim c.else-mark-ne45.branch [
-      else-mark-ne45-via-then-mark-ne45+else-mark-ne43 w ↦ one (simp (eq-eqb _ _ w.if-mark-ne43.false, or-true))
+      | else-mark-ne45-via-then-mark-ne45+else-mark-ne43 w ↦ one (simp (eq-eqb _ _ w.if-mark-ne43.false, or-true))
       | else-mark-ne45-via-else-mark-ne45 w ↦ one (simp (eq-eqb _ _ w.if-mark-ne45.false))
     ]
