@@ -8,7 +8,7 @@ use lib.Dec.{ltb}
 use lib.ListN.{length, take, drop, replicate, length-append, length-map}
 use lib.Seq.{take-append-le, take_at, length-take-le}
 use Rattle.laws.proofs.Clash.{clash}
-use Rattle.laws.specs.Order.{Said, granted, refused, refused_at, next, choose}
+use Rattle.laws.specs.Order.{Said, granted, refused, next, choose}
 use Rattle.laws.specs.Lists.{every, keep}
 use Rattle.laws.specs.Space.{leaves}
 use Rattle.header.specs.Header.{Alert}
@@ -16,7 +16,7 @@ use Rattle.header.specs.Reading.{read_says}
 use Rattle.std.specs.Prelude.{Result, Ok, Err}
 use Rattle.refusals.specs.Refusals.{says, said}
 use Rattle.refusals.specs.declared.Refusal.{Refusal}
-use Rattle.refusals.specs.declared.Refusal.TheVariants.{NoRoom, BadBook, BadClient}
+use Rattle.refusals.specs.declared.Refusal.TheVariants.{BadBook, BadClient}
 use Rattle.refusals.proofs.Said.{next_refused, leaves_refused, never_granted, says_moved}
 use Rattle.header.specs.Answers.{alert_in, fields_of, fields_for, fields_read, said_read}
 use Rattle.header.specs.Promise.{ReadPromise}

@@ -11,7 +11,7 @@ use Rattle.book_rules.specs.Subscription.{Sub}
 use Rattle.book_rules.specs.Afresh.{subs}
 use Rattle.report.specs.Hits.{hits_of}
 use Rattle.report.specs.Steps.{ListsHits, listed_class_of}
-use Rattle.std.specs.Prelude.{Result, Ok, Err}
+use Rattle.std.specs.Prelude.{Result, Ok}
 use Rattle.refusals.specs.declared.Refusal.{Refusal}
 use Rattle.refusals.proofs.Said.{handed_on}
 use Rattle.report.proofs.Stages.{packed_long, packed_front, hits_are, short, listed}
@@ -34,7 +34,6 @@ slice_bounds-list_hits-end c =
     let few = c.requires.1.few in
     let p = c.pack_places.ensures.lent in
     sym (ap length (packed_front f few _ p) ∙ packed_long f few _ p)
-
 
 pub returns-in_err-hits : goal.returns-in_err-hits
 returns-in_err-hits c =
