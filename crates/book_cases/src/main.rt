@@ -11,7 +11,7 @@ ghost use Rattle.std.specs.Prelude.{◌≡◌, ◌<◌, ◌≤◌, length, IfOk}
 use book_edits::Edited;
 use codec::Number;
 use std::io;
-use std::io::{Read, Write};
+use std::io::Write;
 
 // Four items with two words left over; three with a wish 0 in the second; a doubled one.
 const ITEMS: [u32; 29] = [
@@ -265,24 +265,9 @@ fn cases<W: Write>(out: &mut W, book: &mut [u32], input: &[u8]) -> io::Result<()
 }
 
 // The input's first 2,048 bytes are read.
-// Reads an input until it ends or the space is full. Says how many bytes it brought.
-fn read_full<R: Read>(input: &mut R, space: &mut [u8]) -> io::Result<usize>
-    ensures { IfOk result (λ n. n ≤ length space.new) }
-{
-    let mut n: usize = 0;
-    while n < space.len() {
-        let k = input.read(&mut space[n..])?;
-        if k == 0 {
-            return Ok(n);
-        }
-        n += k;
-    }
-    Ok(n)
-}
-
 fn main(rt: HostRuntime) -> io::Result<()> {
     let mut book = [0u32; 8293];
     let mut input = [0u8; 2048];
-    let n = read_full(&mut rt.stdin(), &mut input)?;
+    let n = reading::read_input(&mut rt.stdin(), &mut input)?;
     cases(&mut rt.stdout(), &mut book, &input[..n])
 }

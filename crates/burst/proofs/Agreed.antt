@@ -12,22 +12,24 @@ use Rattle.laws.specs.Space.{pasted, leaves}
 use Rattle.laws.proofs.Tables.{length_table}
 use Rattle.laws.proofs.Parts.{length_part}
 use Rattle.laws.proofs.Pasted.{glue}
+use Rattle.std.specs.Prelude.{Result, Ok, Err}
+use Rattle.refusals.specs.Refusals.{said}
+use Rattle.refusals.specs.declared.Refusal.{Refusal}
+use Rattle.refusals.specs.declared.Refusal.TheVariants.{LongBurst, NoText, ClashAt, LongText, NoRoom}
 use Rattle.burst.specs.Strip.{lead, stripped}
 use Rattle.burst.specs.Vote.{voted_length, clash_at, voted_text, too_long, vote_rows, vote_says, vote_leaves}
-use Rattle.burst.specs.Promise.{said_voted, VotePromise}
+use Rattle.burst.specs.Promise.{VotePromise}
 use Rattle.burst.specs.Steps.{first_difference, voted_bytes, stretch, blended, Agrees, Decides}
-use Rattle.burst.specs.declared.Voted.{Voted}
-use Rattle.burst.specs.declared.Voted.TheVariants.{Text, Refused, RefusedAt}
 use Rattle.burst.proofs.Arranged.{Arranged, clash_is, text_is}
 
 -- ---- two bursts searched, three written
 
 module _ (s p q : List ℕ) (n : ℕ) (out : List ℕ) (k : ℕ) (e : k ≡ first_difference p q (length s) n) where
-  pub agree_3 : k < n → Agrees s p q n out (RefusedAt 3 k) out
+  pub agree_3 : k < n → Agrees s p q n out (Err (ClashAt k)) out
   agree_3 h = record { says = simp (← e, lt-ltb k n h); space = refl }
 
   pub agree_text : (d d' : List ℕ) → n ≤ k → length s ≤ n → n ≤ length p → n ≤ length out
-      → d ≡ pasted out 0 (voted_bytes s p q (length s)) → d' ≡ pasted d (length s) (stretch p (length s) n) → Agrees s p q n out (Text n) d'
+      → d ≡ pasted out 0 (voted_bytes s p q (length s)) → d' ≡ pasted d (length s) (stretch p (length s) n) → Agrees s p q n out (Ok n) d'
   agree_text d d' h f g r x y =
       let l : length (voted_bytes s p q (length s)) ≡ length s = length_table (length s) _ in
       let t : length (stretch p (length s) n) ≡ n - length s = length_part p (length s) (n - length s) (omega arith) in
@@ -43,7 +45,7 @@ same_leaves : (f g : ℕ → List ℕ → List ℕ) (b : Bool) (k n : ℕ) (x : 
 same_leaves f g true k n x out e h = rw e
 same_leaves f g false k n x out e h = rw e h
 
-module _ (a b c s p q : List ℕ) (n : ℕ) (out : List ℕ) (r : Voted) (left : List ℕ) where
+module _ (a b c s p q : List ℕ) (n : ℕ) (out : List ℕ) (r : Result ℕ Refusal) (left : List ℕ) where
   pub decides : Agrees s p q n out r left → Arranged a b c s p q n → n ≡ voted_length a b c → 0 < n → n ≤ 252 → n ≤ length out → Decides a b c out r left
   decides g w e pos most room =
       let k : ℕ = first_difference p q (length s) n in
@@ -56,28 +58,28 @@ module _ (a b c s p q : List ℕ) (n : ℕ) (out : List ℕ) (r : Voted) (left :
             ∙ simp (at, ne_eqb n 0 (omega arith), le-ltb 252 n most, le-ltb (length out) n room));
         space =
             g.space
-            ∙ same_leaves (λ v d. pasted d 0 (blended s p q v)) (λ v d. pasted d 0 (voted_text a b c v)) (ltb k n) k n (said_voted r) out g.says
+            ∙ same_leaves (λ v d. pasted d 0 (blended s p q v)) (λ v d. pasted d 0 (voted_text a b c v)) (ltb k n) k n (said r) out g.says
             (ap (pasted out 0) (sym (text_is a b c s p q n w)));
       }
 
 -- ---- the earlier numbers
 
 module _ (a b c out : List ℕ) (n : ℕ) (e : n ≡ voted_length a b c) where
-  pub decide_2 : n ≡ 0 → Decides a b c out (Refused 2) out
+  pub decide_2 : n ≡ 0 → Decides a b c out (Err NoText) out
   decide_2 p = record { says = rw (← e, eq-eqb n 0 p); space = refl }
 
-  pub decide_4 : (n ≡ 0 → ⊥) → 252 < n → Decides a b c out (RefusedAt 4 252) out
+  pub decide_4 : (n ≡ 0 → ⊥) → 252 < n → Decides a b c out (Err LongText) out
   decide_4 p h = record { says = rw (← e, ne_eqb n 0 p, lt-ltb 252 n h); space = refl }
 
-  pub decide_13 : (n ≡ 0 → ⊥) → n ≤ 252 → length out < n → Decides a b c out (Refused 13) out
+  pub decide_13 : (n ≡ 0 → ⊥) → n ≤ 252 → length out < n → Decides a b c out (Err NoRoom) out
   decide_13 p h g = record { says = rw (← e, ne_eqb n 0 p, le-ltb 252 n h, lt-ltb (length out) n g); space = refl }
 
 module _ (a b c out : List ℕ) (i j k : ℕ) (p : i ≡ lead a) (q : j ≡ lead b) (r : k ≡ lead c) where
-  pub vote_1 : too_long a b c ≡ true → VotePromise a b c out (record { voted = Refused 1; first = i; second = j; third = k }) out
+  pub vote_1 : too_long a b c ≡ true → VotePromise a b c out (record { voted = Err LongBurst; first = i; second = j; third = k }) out
   unfolding vote_says vote_leaves
   vote_1 h = record { says = rw h; first = p; second = q; third = r; space = rw h }
 
-  pub vote_on : (v : Voted) (left : List ℕ) → too_long a b c ≡ false → Decides (stripped a) (stripped b) (stripped c) out v left
+  pub vote_on : (v : Result ℕ Refusal) (left : List ℕ) → too_long a b c ≡ false → Decides (stripped a) (stripped b) (stripped c) out v left
       → VotePromise a b c out (record { voted = v; first = i; second = j; third = k }) left
   unfolding vote_says vote_leaves
   vote_on v left h d = record { says = rw h d.says; first = p; second = q; third = r; space = rw (h, ← d.says) d.space }

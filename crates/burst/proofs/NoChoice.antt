@@ -1,4 +1,4 @@
--- What is said tells the answers apart; a refusal leaves the space as it was, and a granted vote writes the voted length and no more.
+-- Two answers that say the same are one; a refusal leaves the space as it was, and a granted vote writes the voted length and no more.
 use mathlib.Core.Path.{◌≡◌, refl, sym, ap, ◌∙◌}
 use mathlib.Core.Bool.{Bool, true, false}
 use mathlib.Core.List.{List, ◌++◌}
@@ -11,16 +11,14 @@ use denote.Ref.{Bor}
 use denote.Slice.{slice_val}
 use Rattle.laws.specs.Order.{Said, granted, is_refusal, Quiet, none, more}
 use Rattle.laws.specs.Space.{pasted, leaves}
-use Rattle.laws.proofs.Clash.{clash}
 use Rattle.laws.proofs.Order.{refusal_leaves, granted_quiet, said_last}
 use Rattle.laws.proofs.Tables.{length_table}
 use Rattle.laws.proofs.Pasted.{pasted_length}
+use Rattle.refusals.proofs.NoChoice.{said_one}
 use Rattle.burst.specs.Strip.{lead, stripped}
 use Rattle.burst.specs.Vote.{voted_length, clash_at, voted_text, too_long, vote_rows, vote_says, vote_leaves}
-use Rattle.burst.specs.Promise.{LeadingPromise, StripPromise, said_voted, said_vote, VotePromise}
+use Rattle.burst.specs.Promise.{LeadingPromise, StripPromise, said_vote, VotePromise}
 use Rattle.burst.specs.declared.VoteAnswer.{VoteAnswer}
-use Rattle.burst.specs.declared.Voted.{Voted}
-use Rattle.burst.specs.declared.Voted.TheVariants.{Text, Refused, RefusedAt}
 use Rattle.burst.proofs.Stripped.{stripped_rest}
 use Rattle.burst.proofs.Preambles.{all_lead, only_preamble}
 
@@ -56,21 +54,10 @@ strip_only_preamble n burst part e p =
 
 -- ---- vote
 
-pub said_one_to_one : (r r' : Voted) → said_voted r ≡ said_voted r' → r ≡ r'
-said_one_to_one (Text n) (Text m) e = cc
-said_one_to_one (Text n) (Refused m) e = clash cc
-said_one_to_one (Text n) (RefusedAt m j) e = clash cc
-said_one_to_one (Refused n) (Text m) e = clash cc
-said_one_to_one (Refused n) (Refused m) e = cc
-said_one_to_one (Refused n) (RefusedAt m j) e = clash cc
-said_one_to_one (RefusedAt n i) (Text m) e = clash cc
-said_one_to_one (RefusedAt n i) (Refused m) e = clash cc
-said_one_to_one (RefusedAt n i) (RefusedAt m j) e = cc
-
 pub vote_no_choice : (a b c out : List ℕ) (r r' : VoteAnswer) (left left' : List ℕ) → VotePromise a b c out r left → VotePromise a b c out r' left'
     → (r ≡ r') × (left ≡ left')
 vote_no_choice a b c out r r' left left' p q =
-    let v : r.voted ≡ r'.voted = said_one_to_one r.voted r'.voted (p.says ∙ sym q.says) in
+    let v : r.voted ≡ r'.voted = said_one r.voted r'.voted (p.says ∙ sym q.says) in
     let x : r.first ≡ r'.first = p.first ∙ sym q.first in
     let y : r.second ≡ r'.second = p.second ∙ sym q.second in
     let z : r.third ≡ r'.third = p.third ∙ sym q.third in

@@ -1,12 +1,11 @@
 -- What the calls promise.
 use Rattle.std.specs.Prelude.{ℕ, ◌+◌, List, ◌≡◌, length}
 use Rattle.std.specs.Borrow.{Bor}
-use Rattle.laws.specs.Order.{Said, granted, refused, refused_at}
+use Rattle.laws.specs.Order.{Said}
+use Rattle.refusals.specs.Refusals.{said}
 use Rattle.burst.specs.Strip.{lead, stripped}
 use Rattle.burst.specs.Vote.{vote_says, vote_leaves}
 use Rattle.burst.specs.declared.VoteAnswer.{VoteAnswer}
-use Rattle.burst.specs.declared.Voted.{Voted}
-use Rattle.burst.specs.declared.Voted.TheVariants.{Text, Refused, RefusedAt}
 
 -- how many bytes the stripping drops
 pub record LeadingPromise (burst : List ℕ) (r : ℕ) : Type 0 where
@@ -19,15 +18,9 @@ pub record StripPromise (burst part : Bor (List ℕ)) : Type 0 where
   pub block : part.ref_ptr.0 ≡ burst.ref_ptr.0
   pub start : part.ref_ptr.1 ≡ burst.ref_ptr.1 + lead burst.now
 
--- what the vote settled, in the paper's numbers: a text of so many bytes, a number, or a number with its index
-abbrev pub said_voted : Voted → Said ℕ
-said_voted (Text n) = granted n
-said_voted (Refused n) = refused n
-said_voted (RefusedAt n i) = refused_at n i
-
--- and so what the whole answer says
+-- what the vote settled, in the paper's numbers
 abbrev pub said_vote : VoteAnswer → Said ℕ
-said_vote r = said_voted r.voted
+said_vote r = said r.voted
 
 -- the answer, with how many bytes were dropped of each burst, granted or refused; and the space lent
 pub record VotePromise (a b c out : List ℕ) (r : VoteAnswer) (left : List ℕ) : Type 0 where

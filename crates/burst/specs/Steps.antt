@@ -1,12 +1,12 @@
 -- What the private steps of the vote do, over stripped bursts.
-use Rattle.std.specs.Prelude.{ℕ, ◌-◌, Bool, false, not, List, ◌++◌, ◌≡◌, length, take, drop, get_or, eqb, ltb}
+use Rattle.std.specs.Prelude.{ℕ, ◌-◌, Bool, false, not, List, ◌++◌, ◌≡◌, length, take, drop, get_or, eqb, ltb, Result}
 use Rattle.laws.specs.Order.{Said, granted, refused_at, choose, in_order}
 use Rattle.laws.specs.Lists.{table, lowest}
 use Rattle.laws.specs.Space.{pasted, leaves}
+use Rattle.refusals.specs.Refusals.{said}
+use Rattle.refusals.specs.declared.Refusal.{Refusal}
 use Rattle.burst.specs.Bits.{voted_byte}
 use Rattle.burst.specs.Vote.{voted_length, clash_at, voted_text, vote_rows}
-use Rattle.burst.specs.Promise.{said_voted}
-use Rattle.burst.specs.declared.Voted.{Voted}
 
 -- the lowest position from `from` on, below n, at which p and q differ, or n
 abbrev pub differs : List ℕ → List ℕ → ℕ → Bool
@@ -33,9 +33,9 @@ agreed s p q n =
     let k = first_difference p q (length s) n in
     choose (ltb k n) (refused_at 3 k) (granted n)
 
-pub record Agrees (s p q : List ℕ) (n : ℕ) (out : List ℕ) (r : Voted) (left : List ℕ) : Type 0 where
-  pub says : said_voted r ≡ agreed s p q n
-  pub space : left ≡ leaves (λ m d. pasted d 0 (blended s p q m)) (said_voted r) out
+pub record Agrees (s p q : List ℕ) (n : ℕ) (out : List ℕ) (r : Result ℕ Refusal) (left : List ℕ) : Type 0 where
+  pub says : said r ≡ agreed s p q n
+  pub space : left ≡ leaves (λ m d. pasted d 0 (blended s p q m)) (said r) out
 
 -- what is said of three stripped bursts, none of whose received ones is too long, and what is left in the space lent
 abbrev pub decided : List ℕ → List ℕ → List ℕ → ℕ → Said ℕ
@@ -43,6 +43,6 @@ decided a b c room =
     let n = voted_length a b c in
     in_order (vote_rows false n (clash_at a b c n) room) (granted n)
 
-pub record Decides (a b c out : List ℕ) (r : Voted) (left : List ℕ) : Type 0 where
-  pub says : said_voted r ≡ decided a b c (length out)
-  pub space : left ≡ leaves (λ m d. pasted d 0 (voted_text a b c m)) (said_voted r) out
+pub record Decides (a b c out : List ℕ) (r : Result ℕ Refusal) (left : List ℕ) : Type 0 where
+  pub says : said r ≡ decided a b c (length out)
+  pub space : left ≡ leaves (λ m d. pasted d 0 (voted_text a b c m)) (said r) out

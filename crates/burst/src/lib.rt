@@ -9,18 +9,13 @@ ghost use Rattle.burst.specs.Vote.{middle, voted_length, too_long};
 ghost use Rattle.burst.specs.Promise.{LeadingPromise, StripPromise, VotePromise};
 ghost use Rattle.burst.specs.Steps.{first_difference, voted_bytes, stretch, Agrees, Decides};
 
-// What the vote settles: a text of so many bytes, a number, or a number with the index that goes with it.
-#[derive(Clone, Copy)]
-pub enum Voted {
-    Text(usize),
-    Refused(u32),
-    RefusedAt(u32, usize),
-}
+use refusals::Refusal;
 
-// The vote's answer: what it settled; and for the station log, granted or refused, how many bytes were dropped of each burst.
+// The vote's answer: how many bytes the text has, or why there is none; and for the station log, granted or refused, how many bytes
+// were dropped of each burst.
 #[derive(Clone, Copy)]
 pub struct VoteAnswer {
-    pub voted: Voted,
+    pub voted: Result<usize, Refusal>,
     pub first: usize,
     pub second: usize,
     pub third: usize,
@@ -137,22 +132,22 @@ fn write_rest(p: &[u8], from: usize, end: usize, out: &mut [u8])
 // s is the shortest of three stripped bursts, and n the length of the next. Three reach as far as s does, so nothing
 // clashes there; from there up to n only p and q reach. So one search over that stretch settles 3, and then each byte
 // is written once, with no question of who reaches.
-fn agree(s: &[u8], p: &[u8], q: &[u8], n: usize, out: &mut [u8]) -> Voted
+fn agree(s: &[u8], p: &[u8], q: &[u8], n: usize, out: &mut [u8]) -> Result<usize, Refusal>
     requires { (length s.now ≤ n) × (n ≤ length p.now) × (n ≤ length q.now) × (n ≤ length out.old) }
     ensures { Agrees s.now p.now q.now n out.old result out.new }
 {
     let m = s.len();
     let k = first_difference(p, q, m, n);
     if k < n {
-        return Voted::RefusedAt(3, k);
+        return Err(Refusal::ClashAt(k));
     }
     write_voted(s, p, q, m, out);
     write_rest(p, m, n, out);
-    Voted::Text(n)
+    Ok(n)
 }
 
 // Three stripped bursts, once 1, 2, 4 and 13 are settled: which of them is the shortest.
-fn by_length(a: &[u8], b: &[u8], c: &[u8], n: usize, out: &mut [u8]) -> Voted
+fn by_length(a: &[u8], b: &[u8], c: &[u8], n: usize, out: &mut [u8]) -> Result<usize, Refusal>
     requires { (n ≡ voted_length a.now b.now c.now) × (0 < n) × (n ≤ 252) × (n ≤ length out.old) }
     ensures { Decides a.now b.now c.now out.old result out.new }
 {
@@ -169,18 +164,18 @@ fn by_length(a: &[u8], b: &[u8], c: &[u8], n: usize, out: &mut [u8]) -> Voted
 }
 
 // The vote on three stripped bursts, none of whose received ones is too long.
-fn decide(a: &[u8], b: &[u8], c: &[u8], out: &mut [u8]) -> Voted
+fn decide(a: &[u8], b: &[u8], c: &[u8], out: &mut [u8]) -> Result<usize, Refusal>
     ensures { Decides a.now b.now c.now out.old result out.new }
 {
     let n = median(a.len(), b.len(), c.len());
     if n == 0 {
-        return Voted::Refused(2);
+        return Err(Refusal::NoText);
     }
     if 252 < n {
-        return Voted::RefusedAt(4, 252);
+        return Err(Refusal::LongText);
     }
     if out.len() < n {
-        return Voted::Refused(13);
+        return Err(Refusal::NoRoom);
     }
     by_length(a, b, c, n, out)
 }
@@ -195,7 +190,7 @@ pub fn vote(a: &[u8], b: &[u8], c: &[u8], out: &mut [u8]) -> VoteAnswer
     let third = leading(c);
     if too_long(a, b, c) {
         return VoteAnswer {
-            voted: Voted::Refused(1),
+            voted: Err(Refusal::LongBurst),
             first,
             second,
             third,

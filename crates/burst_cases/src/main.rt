@@ -6,12 +6,10 @@
 // or 6 turned. With bit 7 turned it is `+`, which stands for itself. So no name of a case has one of these marks.
 #![tactic(auto)]
 
-ghost use Rattle.std.specs.Prelude.{IfOk, ◌≤◌, length};
-
-use burst::{VoteAnswer, Voted};
-use codec::Number;
+use burst::VoteAnswer;
+use refusals::Refusal;
 use std::io;
-use std::io::{Read, Write};
+use std::io::Write;
 
 const MARKS: [u8; 8] = *b"<!\"#$%&'";
 
@@ -62,21 +60,25 @@ fn strip<W: Write>(out: &mut W, burst: &[u8]) -> io::Result<()> {
     show(out, part)
 }
 
-fn settled<W: Write>(out: &mut W, voted: Voted) -> io::Result<()> {
+fn settled<W: Write>(out: &mut W, voted: Result<usize, Refusal>) -> io::Result<()> {
     match voted {
-        Voted::Text(n) => tell(out, b": text=", n),
-        Voted::Refused(number) => tell(out, b": refused=", number as usize),
-        Voted::RefusedAt(number, index) => {
-            tell(out, b": refused=", number as usize)?;
-            tell(out, b" at=", index)
-        }
+        Ok(n) => tell(out, b": text=", n),
+        Err(why) => refused(out, why),
+    }
+}
+
+// A number, and the index that is named beside it, if one is.
+fn refused<W: Write>(out: &mut W, why: Refusal) -> io::Result<()> {
+    tell(out, b": refused=", why.number() as usize)?;
+    match why.index() {
+        Some(index) => tell(out, b" at=", index),
+        None => Ok(()),
     }
 }
 
 // What was settled, and how many bytes were dropped of each burst.
 fn answer<W: Write>(out: &mut W, said: VoteAnswer) -> io::Result<()> {
-    let voted = said.voted;
-    settled(out, voted)?;
+    settled(out, said.voted)?;
     tell(out, b" dropped=", said.first)?;
     tell(out, b" ", said.second)?;
     tell(out, b" ", said.third)
@@ -116,50 +118,26 @@ fn vote_case<W: Write>(out: &mut W, line: &[u8]) -> io::Result<()> {
     )
 }
 
-// The index of the next byte b from an index on, or the length.
-fn find(input: &[u8], at: usize, b: u8) -> usize
-    requires { at ≤ length input.now }
-    ensures from { at ≤ result }
-    ensures within { result ≤ length input.now }
-{
-    match input[at..].iter().position(|x| *x == b) {
-        Some(k) => at + k,
-        None => input.len(),
-    }
-}
-
-// Where part k of a line starts, or the line's length.
-fn start(line: &[u8], k: usize) -> usize
-    ensures { result ≤ length line.now }
-{
-    let mut left = k;
-    for (i, b) in line.iter().enumerate() {
-        if left == 0 {
-            return i;
-        }
-        if *b == b'|' {
-            left -= 1;
-        }
-    }
-    line.len()
-}
-
+// Part k of a line, which is empty where the line has fewer.
 fn part(line: &[u8], k: usize) -> &[u8] {
-    let at = start(line, k);
-    let end = find(line, at, b'|');
-    &line[at..end]
+    line.split(|b| *b == b'|').nth(k).unwrap_or(&[])
+}
+
+// Whether nothing follows the second bar, so that there is one burst alone.
+fn is_one(line: &[u8]) -> bool {
+    line.splitn(3, |b| *b == b'|')
+        .nth(2)
+        .unwrap_or(&[])
+        .is_empty()
 }
 
 fn room(digits: &[u8]) -> usize {
-    match codec::digits_at(digits, 0, 3) {
-        Number::Is(n) => n as usize,
-        Number::NoNumber => 0,
-    }
+    codec::digits_at(digits, 0, 3).unwrap_or(0) as usize
 }
 
 fn case<W: Write>(out: &mut W, line: &[u8]) -> io::Result<()> {
     say(out, part(line, 0))?;
-    if start(line, 2) == line.len() {
+    if is_one(line) {
         strip(out, part(line, 1))?;
     } else {
         vote_case(out, line)?;
@@ -168,11 +146,8 @@ fn case<W: Write>(out: &mut W, line: &[u8]) -> io::Result<()> {
 }
 
 fn cases<W: Write>(out: &mut W, input: &[u8]) -> io::Result<()> {
-    let mut at: usize = 0;
-    while at < input.len() {
-        let e = find(input, at, b'\n');
-        case(out, &input[at..e])?;
-        at = e + 1;
+    for line in input.split_inclusive(|b| *b == b'\n') {
+        case(out, line.strip_suffix(b"\n").unwrap_or(line))?;
     }
     Ok(())
 }
@@ -190,23 +165,8 @@ fn run<W: Write>(out: &mut W, input: &mut [u8]) -> io::Result<()> {
 }
 
 // The input's first 8,192 bytes are read.
-// Reads an input until it ends or the space is full. Says how many bytes it brought.
-fn read_full<R: Read>(input: &mut R, space: &mut [u8]) -> io::Result<usize>
-    ensures { IfOk result (λ n. n ≤ length space.new) }
-{
-    let mut n: usize = 0;
-    while n < space.len() {
-        let k = input.read(&mut space[n..])?;
-        if k == 0 {
-            return Ok(n);
-        }
-        n += k;
-    }
-    Ok(n)
-}
-
 fn main(rt: HostRuntime) -> io::Result<()> {
     let mut input = [0u8; 8192];
-    let n = read_full(&mut rt.stdin(), &mut input)?;
+    let n = reading::read_input(&mut rt.stdin(), &mut input)?;
     run(&mut rt.stdout(), &mut input[..n])
 }

@@ -3,6 +3,7 @@ use mathlib.Core.Path.{◌≡◌, refl, ap, ◌∙◌}
 use mathlib.Core.Bool.{true, false}
 use Prim.Native.Nat.{ℕ}
 use Rattle.laws.specs.Order.{granted, refused}
+use Rattle.refusals.specs.declared.Refusal.TheVariants.{NoSuchDay}
 use Rattle.clock.specs.Clock.{has_day, is_clock}
 use Rattle.clock.specs.Calendar.{dated, date_of}
 use Rattle.header.specs.Header.{is_issue, is_duration}
@@ -33,10 +34,10 @@ module _ (at : Clock) (hour minute duration : ℕ)
     (h : is_clock at ≡ true) (y : at.year ≡ 2023) (d : is_duration duration ≡ true) (i : is_issue 366 hour minute ≡ true) where
   pub times_366 : times_says at 366 hour minute duration ≡ refused 14
   times_366 =
-      times_refused at 366 hour minute duration 14
+      times_refused at 366 hour minute duration NoSuchDay
       (asked_14 at 366 hour minute duration h d i (ap (λ (n : ℕ). has_day n 366) (year_is at 366 hour minute ∙ y) ∙ no_366))
 
   pub lifetime_366 : lifetime_says at 366 hour minute duration ≡ refused 14
   lifetime_366 =
-      lifetime_refused at 366 hour minute duration 14
+      lifetime_refused at 366 hour minute duration NoSuchDay
       (asked_14 at 366 hour minute duration h d i (ap (λ (n : ℕ). has_day n 366) (year_is at 366 hour minute ∙ y) ∙ no_366))

@@ -4,6 +4,7 @@ use mathlib.Core.Bool.{Bool, true, false, not}
 use mathlib.Core.List.{[], ◌∷◌}
 use Prim.Native.Nat.{ℕ}
 use Rattle.laws.specs.Order.{granted, refused, ◌when◌, in_order}
+use Rattle.refusals.specs.declared.Refusal.TheVariants.{BadClock, NoSuchDay}
 use Rattle.clock.specs.Clock.{has_day, is_clock}
 use Rattle.header.specs.Header.{is_issue, is_duration}
 use Rattle.clock.specs.Lifetime.{year_of, times_of}
@@ -13,10 +14,10 @@ use Rattle.clock.proofs.Asking.{asked_15, asked_14, asked_fit, times_refused, ti
 
 module _ (at : Clock) (day hour minute duration : ℕ) (i : is_issue day hour minute ≡ true) (d : is_duration duration ≡ true) where
   pub bad_clock_refused : is_clock at ≡ false → times_says at day hour minute duration ≡ refused 15
-  bad_clock_refused h = times_refused at day hour minute duration 15 (asked_15 at day hour minute duration h)
+  bad_clock_refused h = times_refused at day hour minute duration BadClock (asked_15 at day hour minute duration h)
 
   pub no_day_refused : is_clock at ≡ true → has_day (year_of at day hour minute) day ≡ false → times_says at day hour minute duration ≡ refused 14
-  no_day_refused h y = times_refused at day hour minute duration 14 (asked_14 at day hour minute duration h d i y)
+  no_day_refused h y = times_refused at day hour minute duration NoSuchDay (asked_14 at day hour minute duration h d i y)
 
   pub timed : is_clock at ≡ true → has_day (year_of at day hour minute) day ≡ true
       → times_says at day hour minute duration ≡ granted (times_of at day hour minute duration)

@@ -1,4 +1,4 @@
--- Paper 01, "Numbers and what they leave": what each call on clocks says, and what each case of its answer says.
+-- Paper 01, "Numbers and what they leave": what each call on clocks says.
 use Rattle.std.specs.Prelude.{ℕ, not, [], ◌∷◌}
 use Rattle.laws.specs.Order.{Said, granted, refused, Row, ◌when◌, in_order, next}
 use Rattle.clock.specs.Clock.{has_day, is_clock}
@@ -9,16 +9,6 @@ use Rattle.clock.specs.declared.Clock.{Clock}
 use Rattle.clock.specs.declared.MonthDay.{MonthDay}
 use Rattle.clock.specs.declared.Phase.{Phase}
 use Rattle.clock.specs.declared.Times.{Times}
-use Rattle.clock.specs.declared.Checked.{Checked}
-use Rattle.clock.specs.declared.Checked.TheVariants.{Good, Bad}
-use Rattle.clock.specs.declared.Date.{Date}
-use Rattle.clock.specs.declared.Date.TheVariants.{On, NoDate}
-use Rattle.clock.specs.declared.Life.{Life}
-use Rattle.clock.specs.declared.Life.TheVariants.{Is, NoLife}
-use Rattle.clock.specs.declared.Timed.{Timed}
-use Rattle.clock.specs.declared.Timed.TheVariants.{Are, NoTimes}
-
--- ---- what a call says
 
 -- rows that several calls share: a clock out of range; a year that lacks the day
 abbrev pub bad_clock : {A : Type 0} → Clock → Row (Said A)
@@ -53,21 +43,3 @@ lifetime_says at day hour minute duration =
 unfoldable pub times_says : Clock → ℕ → ℕ → ℕ → ℕ → Said Times
 times_says at day hour minute duration =
     next (asked at day hour minute duration) (λ u. granted (times_of at day hour minute duration))
-
--- ---- what each case of an answer says
-
-abbrev pub said_checked : Checked → Said (Unit {0})
-said_checked Good = granted tt
-said_checked (Bad n) = refused n
-
-abbrev pub said_date : Date → Said MonthDay
-said_date (On d) = granted d
-said_date (NoDate n) = refused n
-
-abbrev pub said_life : Life → Said Phase
-said_life (Is s) = granted s
-said_life (NoLife n) = refused n
-
-abbrev pub said_timed : Timed → Said Times
-said_timed (Are t) = granted t
-said_timed (NoTimes n) = refused n

@@ -4,11 +4,13 @@
 ghost use Rattle.std.specs.Prelude.{◌≡◌, true, ◌<◌, ◌≤◌};
 ghost use Rattle.clock.specs.Clock.{has_day, is_clock};
 ghost use Rattle.clock.specs.Lifetime.{year_of, minute_of, phase_of, time_in, stamp_of, times_of};
-ghost use Rattle.clock.specs.Answers.{asked, said_checked};
+ghost use Rattle.clock.specs.Answers.{asked};
 ghost use Rattle.clock.specs.Promise.{CheckPromise, DatePromise, LifetimePromise, TimesPromise};
 ghost use Rattle.clock.specs.Steps.{Fit, OfYear, Minute};
+ghost use Rattle.refusals.specs.Refusals.{said};
 
 use calendar::{date_in, days_in, has_day};
+use refusals::Refusal;
 
 mod calendar;
 mod table;
@@ -52,30 +54,6 @@ pub struct Times {
     pub phase: Phase,
 }
 
-#[derive(Clone, Copy)]
-pub enum Checked {
-    Good,
-    Bad(u32),
-}
-
-#[derive(Clone, Copy)]
-pub enum Date {
-    On(MonthDay),
-    NoDate(u32),
-}
-
-#[derive(Clone, Copy)]
-pub enum Life {
-    Is(Phase),
-    NoLife(u32),
-}
-
-#[derive(Clone, Copy)]
-pub enum Timed {
-    Are(Times),
-    NoTimes(u32),
-}
-
 // Whether a clock is in range.
 fn is_clock(at: Clock) -> bool
     ensures { result ≡ is_clock at }
@@ -102,23 +80,21 @@ fn year_of(at: Clock, day: u32, hour: u32, minute: u32) -> u32
     at.year
 }
 
-// The first number that holds of a header's fields at a clock.
-fn refusal(at: Clock, day: u32, hour: u32, minute: u32, duration: u32) -> Checked
-    ensures { said_checked result ≡ asked at day hour minute duration }
+// Why a header's fields are refused at a clock: the first number that holds.
+fn refusal(at: Clock, day: u32, hour: u32, minute: u32, duration: u32) -> Result<(), Refusal>
+    ensures { said result ≡ asked at day hour minute duration }
 {
-    if !is_clock(at) {
-        return Checked::Bad(15);
-    }
+    check(at)?;
     if !header::is_duration(duration) {
-        return Checked::Bad(9);
+        return Err(Refusal::BadDuration);
     }
     if !header::is_issue(day, hour, minute) {
-        return Checked::Bad(10);
+        return Err(Refusal::BadIssue);
     }
     if !has_day(year_of(at, day, hour, minute), day) {
-        return Checked::Bad(14);
+        return Err(Refusal::NoSuchDay);
     }
-    Checked::Good
+    Ok(())
 }
 
 // Minutes from the start of the year.
@@ -219,42 +195,50 @@ fn times_at(at: Clock, day: u32, hour: u32, minute: u32, duration: u32) -> Times
     }
 }
 
-// Whether a clock is in range: good, or 15.
-pub fn check(at: Clock) -> Checked
+// Whether a clock is in range: or 15.
+pub fn check(at: Clock) -> Result<(), Refusal>
     ensures { CheckPromise at result }
 {
     if is_clock(at) {
-        return Checked::Good;
+        return Ok(());
     }
-    Checked::Bad(15)
+    Err(Refusal::BadClock)
 }
 
 // Month and day of a day of a year: or 14, where the year lacks it.
-pub fn date_of(year: u32, day: u32) -> Date
+pub fn date_of(year: u32, day: u32) -> Result<MonthDay, Refusal>
     ensures { DatePromise year day result }
 {
     if has_day(year, day) {
-        return Date::On(date_in(year, day));
+        return Ok(date_in(year, day));
     }
-    Date::NoDate(14)
+    Err(Refusal::NoSuchDay)
 }
 
 // Whether a header is early, live or expired at a clock: or 15, 9, 10, 14.
-pub fn lifetime(at: Clock, day: u32, hour: u32, minute: u32, duration: u32) -> Life
+pub fn lifetime(
+    at: Clock,
+    day: u32,
+    hour: u32,
+    minute: u32,
+    duration: u32,
+) -> Result<Phase, Refusal>
     ensures { LifetimePromise at day hour minute duration result }
 {
-    match refusal(at, day, hour, minute, duration) {
-        Checked::Good => Life::Is(phase_at(at, minute_of(day, hour, minute), duration)),
-        Checked::Bad(n) => Life::NoLife(n),
-    }
+    refusal(at, day, hour, minute, duration)?;
+    Ok(phase_at(at, minute_of(day, hour, minute), duration))
 }
 
 // When a header was issued and runs out, and its phase at a clock: or 15, 9, 10, 14. No minute is computed twice.
-pub fn times_of(at: Clock, day: u32, hour: u32, minute: u32, duration: u32) -> Timed
+pub fn times_of(
+    at: Clock,
+    day: u32,
+    hour: u32,
+    minute: u32,
+    duration: u32,
+) -> Result<Times, Refusal>
     ensures { TimesPromise at day hour minute duration result }
 {
-    match refusal(at, day, hour, minute, duration) {
-        Checked::Good => Timed::Are(times_at(at, day, hour, minute, duration)),
-        Checked::Bad(n) => Timed::NoTimes(n),
-    }
+    refusal(at, day, hour, minute, duration)?;
+    Ok(times_at(at, day, hour, minute, duration))
 }

@@ -5,7 +5,7 @@ use mathlib.Core.List.{List}
 use mathlib.Core.Bool.{Bool, true, false, ◌&&◌, and-false}
 use lib.ListN.{length, take, drop}
 use lib.Dec.{leb}
-use borrow.Author.Tests.{le-leb, lt-leb}
+use borrow.Author.Tests.{le-leb, lt-leb, leb-true}
 use Rattle.std.specs.Prelude.{Some, None}
 use Rattle.laws.specs.Order.{choose}
 use Rattle.laws.specs.Lists.{every}
@@ -27,6 +27,15 @@ module _ (t : List ℕ) (at w : ℕ) where
       go true true false e = is_none (sym e)
       go true false d e = is_none (sym e)
       go false b d e = is_none (sym e)
+
+  pub number_inside : {n : ℕ} → number_at t at w ≡ Some n → at + w ≤ length t
+  unfolding number_at
+  number_inside {n} e = go (leb w 9) (leb (at + w) (length t)) refl (every digit part) e
+    where
+      go : (a b : Bool) → leb (at + w) (length t) ≡ b → (d : Bool) → choose (a && (b && d)) (Some (decimal part)) None ≡ Some n → at + w ≤ length t
+      go true true h d e = leb-true (at + w) (length t) h
+      go true false h d e = is_none (sym e)
+      go false b h d e = is_none (sym e)
 
   pub number_none : w ≤ 9 → at + w ≤ length t → number_at t at w ≡ None → (digits w).allowed part ≡ false
   unfolding number_at

@@ -1,6 +1,6 @@
 -- Demand 1. Its first half is no statement of this crate: that a call takes any input, ends, and touches nothing outside what it was
 -- lent is what the check proves of every function before its promise counts, and no public function has a precondition.
-use Rattle.std.specs.Prelude.{ℕ, ◌+◌, ◌*◌, ◌≡◌, Bool, true, ◌&&◌, not, List, [], ◌∷◌, length, eqb, ltb}
+use Rattle.std.specs.Prelude.{ℕ, ◌+◌, ◌*◌, ◌≡◌, Bool, true, ◌&&◌, not, List, [], ◌∷◌, length, eqb, ltb, Result}
 use Rattle.std.specs.Borrow.{Bor}
 use Rattle.laws.specs.Order.{granted, refused, refused_at, ◌when◌, in_order, next, is_refusal}
 use Rattle.laws.specs.Lists.{every}
@@ -13,12 +13,11 @@ use Rattle.burst.specs.Promise.{LeadingPromise, StripPromise, VotePromise, said_
 use Rattle.header.specs.Header.{Alert, is_origin, is_event, is_issue, is_sender, is_duration, start, origin, event, sender, header, text_of}
 use Rattle.header.specs.Reading.{read_says, ReadStops, TableStops}
 use Rattle.header.specs.Writing.{write_says}
-use Rattle.header.specs.Answers.{said_read, said_wrote, no_fields}
+use Rattle.header.specs.Answers.{said_read, fields_read, no_fields}
 use Rattle.header.specs.Promise.{ReadPromise, WritePromise, IsIssuePromise, IsDurationPromise, IsOriginPromise, IsEventPromise, IsSenderPromise}
 use Rattle.header.specs.Promise.{IsDurationOfPromise}
 use Rattle.header.specs.declared.Fields.{Fields}
 use Rattle.header_fields.specs.Promise.{StandsPromise, PlaceAtPromise, MinutesAtPromise, IssueAtPromise}
-use Rattle.header.specs.declared.ReadAnswer.{ReadAnswer}
 use Rattle.event.specs.Promise.{ListedPromise, ClassPromise, ListedClassPromise}
 use Rattle.place.specs.FirstWord.{bad_place}
 use Rattle.place.specs.Promise.{MatchesPromise, MatchesSomePromise, FirstWordPromise, PlaceOfPromise, BadPlacePromise, PackPromise, PackPlacesPromise}
@@ -34,7 +33,8 @@ use Rattle.book_rules.specs.Rules.{good, recs, empty}
 use Rattle.book_rules.specs.Edits.{stands, full, add_says, remove_says}
 use Rattle.book_rules.specs.Load.{load_says, add_all, items}
 use Rattle.book_rules.specs.Afresh.{subs}
-use Rattle.book_edits.specs.Answer.{said_edited}
+use Rattle.refusals.specs.Refusals.{said}
+use Rattle.refusals.specs.declared.Refusal.{Refusal}
 use Rattle.book_records.specs.Promise.{BadClientPromise, BadWishPromise, ClientOfPromise, WishOfPromise, MarkOrNonePromise, RankOfPromise, RankOrNonePromise}
 use Rattle.book_check.specs.Promise.{IsGoodPromise}
 use Rattle.book_shifts.specs.Promise.{OpenPromise, ClosePromise}
@@ -43,19 +43,14 @@ use Rattle.book_edits.specs.Promise.{AddPromise, RemovePromise, LoadPromise}
 use Rattle.report.specs.Hits.{hits_of}
 use Rattle.report.specs.Report.{summary_of, report_says}
 use Rattle.report.specs.Promise.{ReportPromise}
-use Rattle.report.specs.Answers.{said_report}
 use Rattle.input_lines.specs.Promise.{NowLinePromise, ClientLinePromise, HeaderLinePromise, SubLinePromise}
 use Rattle.clock.specs.declared.Times.{Times}
 use Rattle.clock.specs.declared.Stamp.{Stamp}
 use Rattle.page_lines.specs.Lines.{number_line, text_line, stamp_line, hits_text}
 use Rattle.page_lines.specs.Promise.{SizePromise}
 use Rattle.page_printing.specs.Page.{page_text, refused_text}
-use Rattle.page_printing.specs.Promise.{print_says, PrintPromise, said_printed}
+use Rattle.page_printing.specs.Promise.{print_says, PrintPromise}
 use Rattle.page.specs.Promise.{PagePromise}
-use Rattle.burst.specs.declared.Voted.{Voted}
-use Rattle.header.specs.declared.Wrote.{Wrote}
-use Rattle.book_edits.specs.declared.Edited.{Edited}
-use Rattle.page_printing.specs.declared.Printed.{Printed}
 use Rattle.c_answers.specs.Promise.{CapPromise, AnswerPromise, VotedPromise, EditedPromise, PrintedPromise, WrotePromise, YesPromise}
 use Rattle.demands.specs.Forms.{LeavesNoChoice, LeavesNoChoiceOf, RefusalWritesNothing, GoesBy, numbered}
 use Rattle.demands.specs.Program.{ProgramNumbers}
@@ -147,10 +142,10 @@ pub record EveryCall : Type 0 where
   -- answers as one number
   pub cap : (v : ℕ) → LeavesNoChoice (CapPromise v)
   pub answer : (number sizeOrIndex : ℕ) → LeavesNoChoice (AnswerPromise number sizeOrIndex)
-  pub voted : (v : Voted) → LeavesNoChoice (VotedPromise v)
-  pub edited : (e : Edited) → LeavesNoChoice (EditedPromise e)
-  pub printed : (p : Printed) → LeavesNoChoice (PrintedPromise p)
-  pub wrote : (w : Wrote) → LeavesNoChoice (WrotePromise w)
+  pub voted : (v : Result ℕ Refusal) → LeavesNoChoice (VotedPromise v)
+  pub edited : (e : Result (Unit {0}) Refusal) → LeavesNoChoice (EditedPromise e)
+  pub printed : (p : Result ℕ Refusal) → LeavesNoChoice (PrintedPromise p)
+  pub wrote : (w : Result ℕ Refusal) → LeavesNoChoice (WrotePromise w)
   pub yes : (b : Bool) → LeavesNoChoice (YesPromise b)
   -- the 13 calls from outside, and the three over words that they hand on
   pub outside : OutsideCall
@@ -159,17 +154,17 @@ pub record EveryCall : Type 0 where
 
 pub record EveryRefusal : Type 0 where
   pub vote : (a b c out : List ℕ) → RefusalWritesNothing said_vote out (VotePromise a b c out)
-  pub write : (f : Fields) (out : List ℕ) → RefusalWritesNothing said_wrote out (λ r left. WritePromise f out left r)
-  pub add : (book : List ℕ) (place client wish : ℕ) → RefusalWritesNothing said_edited book (AddPromise book place client wish)
-  pub remove : (book : List ℕ) (place client : ℕ) → RefusalWritesNothing said_edited book (RemovePromise book place client)
+  pub write : (f : Fields) (out : List ℕ) → RefusalWritesNothing said out (λ r left. WritePromise f out left r)
+  pub add : (book : List ℕ) (place client wish : ℕ) → RefusalWritesNothing said book (AddPromise book place client wish)
+  pub remove : (book : List ℕ) (place client : ℕ) → RefusalWritesNothing said book (RemovePromise book place client)
   -- load and load_each
-  pub load : (book list : List ℕ) → RefusalWritesNothing said_edited book (LoadPromise book list)
+  pub load : (book list : List ℕ) → RefusalWritesNothing said book (LoadPromise book list)
   pub report : (book : List ℕ) (client : ℕ) (text : List ℕ) (at : Clock) (out : List ℕ)
-      → RefusalWritesNothing said_report out (ReportPromise book client text at out)
-  pub print_refusal : (number : ℕ) (out : List ℕ) → RefusalWritesNothing said_printed out (PrintPromise (refused_text number) out)
+      → RefusalWritesNothing said out (ReportPromise book client text at out)
+  pub print_refusal : (number : ℕ) (out : List ℕ) → RefusalWritesNothing said out (PrintPromise (refused_text number) out)
   pub print_page : (client : ℕ) (times : Times) (event : List ℕ) (listed : Bool) (class : ℕ) (hits out : List ℕ)
-      → RefusalWritesNothing said_printed out (PrintPromise (page_text client times event listed class hits) out)
-  pub page : (input out : List ℕ) → RefusalWritesNothing said_printed out (PagePromise input out)
+      → RefusalWritesNothing said out (PrintPromise (page_text client times event listed class hits) out)
+  pub page : (input out : List ℕ) → RefusalWritesNothing said out (PagePromise input out)
   -- the lines of a page
   pub put_number : (out : List ℕ) (at : ℕ) (word : List ℕ) (n w : ℕ) → RefusalWritesNothing said_put out (PutPromise out at (number_line word w n))
   pub put_text : (out : List ℕ) (at : ℕ) (word text : List ℕ) → RefusalWritesNothing said_put out (PutPromise out at (text_line word text))
@@ -181,7 +176,7 @@ pub record EveryRefusal : Type 0 where
   -- put_digits and put_count
   pub put_digits : (out : List ℕ) (at n width : ℕ) → RefusalWritesNothing said_put out (PutPromise out at (dig width n))
   -- `read` is lent nothing; what it hands back of a refused text is zeros
-  pub read : (text : List ℕ) (r : ReadAnswer) → ReadPromise text r → is_refusal (said_read r) ≡ true → r.fields ≡ no_fields
+  pub read : (text : List ℕ) (r : Result Fields Refusal) → ReadPromise text r → is_refusal (said_read r) ≡ true → fields_read r ≡ no_fields
   -- the calls from outside that are lent space
   pub outside : OutsideRefusal
 

@@ -1,6 +1,6 @@
 -- Demand 2. Reading, writing, event classes, place matching and lifetimes as paper 01 condenses 47 CFR 11.31 and NWS Instruction 10-1712,
 -- and the vote by its house rule.
-use Rattle.std.specs.Prelude.{ℕ, ◌+◌, ◌-◌, ◌*◌, ◌/◌, ◌%◌, ◌≤◌, ◌≡◌, true, false, ◌&&◌, ◌||◌, List, [], ◌∷◌, ◌++◌, length, take, drop, replicate, get_or, ltb, eqb}
+use Rattle.std.specs.Prelude.{ℕ, ◌+◌, ◌-◌, ◌*◌, ◌/◌, ◌%◌, ◌≤◌, ◌≡◌, true, false, ◌&&◌, ◌||◌, List, [], ◌∷◌, ◌++◌, length, take, drop, replicate, get_or, ltb, eqb, Result}
 use Prim.Native.Char.{code as letter}
 use Rattle.laws.specs.Order.{granted, ◌when◌}
 use Rattle.laws.specs.Lists.{every}
@@ -15,11 +15,11 @@ use Rattle.burst.specs.Promise.{VotePromise, said_vote}
 use Rattle.burst.specs.declared.VoteAnswer.{VoteAnswer}
 use Rattle.header.specs.Header.{Alert, is_origin, is_event, is_issue, is_duration, is_sender, header, parts_of, text_of, WellFormed}
 use Rattle.header.specs.Reading.{read_says}
-use Rattle.header.specs.Answers.{said_read, said_wrote, alert_in, fields_of}
+use Rattle.refusals.specs.Refusals.{said}
+use Rattle.refusals.specs.declared.Refusal.{Refusal}
+use Rattle.header.specs.Answers.{said_read, alert_in, fields_of}
 use Rattle.header.specs.Promise.{ReadPromise, WritePromise}
 use Rattle.header.specs.declared.Fields.{Fields}
-use Rattle.header.specs.declared.ReadAnswer.{ReadAnswer}
-use Rattle.header.specs.declared.Wrote.{Wrote}
 use Rattle.event.specs.Events.{events, no_double, is_listed}
 use Rattle.event.specs.Class.{class_of}
 use Rattle.place.specs.Place.{matches, matches_some}
@@ -76,16 +76,16 @@ pub record ReadingAndWriting : Type 0 where
   pub text_length : (a : Alert) → WellFormed a → (length (text_of a) ≡ 35 + 7 * length a.places) × (1 ≤ length a.places) × (length a.places ≤ 31)
   -- "Written fields read back the same": whatever `write` granted, `read` reads to those fields. Entries past the count, which no text
   -- carries, come back as zeros
-  pub write_read : (f : Fields) (out left : List ℕ) (w : Wrote) (n : ℕ) (r : ReadAnswer) → WritePromise f out left w → said_wrote w ≡ granted n
+  pub write_read : (f : Fields) (out left : List ℕ) (w : Result ℕ Refusal) (n : ℕ) (r : Result Fields Refusal) → WritePromise f out left w → said w ≡ granted n
       → ReadPromise (take n left) r
       → (said_read r ≡ granted (alert_in f)) × (r.fields ≡ fields_of (alert_in f))
-  pub write_read_same : (f : Fields) (out left : List ℕ) (w : Wrote) (n : ℕ) (r : ReadAnswer) → WritePromise f out left w → said_wrote w ≡ granted n
+  pub write_read_same : (f : Fields) (out left : List ℕ) (w : Result ℕ Refusal) (n : ℕ) (r : Result Fields Refusal) → WritePromise f out left w → said w ≡ granted n
       → ReadPromise (take n left) r
       → f.count ≤ 31 → drop f.count f.places ≡ replicate (31 - f.count) 0 → length f.places ≡ 31 → r.fields ≡ f
   -- "a text that was read writes back the same", where there is room
-  pub read_write : (text : List ℕ) (r : ReadAnswer) (a : Alert) (out left : List ℕ) (w : Wrote) → ReadPromise text r → said_read r ≡ granted a
+  pub read_write : (text : List ℕ) (r : Result Fields Refusal) (a : Alert) (out left : List ℕ) (w : Result ℕ Refusal) → ReadPromise text r → said_read r ≡ granted a
       → WritePromise r.fields out left w
-      → length text ≤ length out → (said_wrote w ≡ granted (length text)) × (left ≡ pasted out 0 text)
+      → length text ≤ length out → (said w ≡ granted (length text)) × (left ≡ pasted out 0 text)
 
 -- ---- ".. event classes .."
 

@@ -1,5 +1,5 @@
 -- Demand 3. The book and its history, a client's report, and that it depends on nobody else.
-use Rattle.std.specs.Prelude.{ℕ, ◌*◌, ◌≤◌, ◌≡◌, true, false, List, length, take}
+use Rattle.std.specs.Prelude.{ℕ, ◌*◌, ◌≤◌, ◌≡◌, true, false, List, length, take, Result, Ok}
 use Rattle.laws.specs.Order.{granted}
 use Rattle.laws.specs.Lists.{tally}
 use Rattle.laws.specs.Space.{pasted}
@@ -14,21 +14,18 @@ use Rattle.book_rules.specs.Subscription.{Sub, how_often}
 use Rattle.book_rules.specs.Afresh.{subs, Afresh, Valid, built}
 use Rattle.book_rules.specs.History.{Edit, adds, removes, after, number, standing_from, standing}
 use Rattle.book_history.specs.Statements.{LoadIsAdding, LoadIsBuilding, BookAndHistory}
-use Rattle.book_edits.specs.Answer.{said_edited}
+use Rattle.refusals.specs.Refusals.{said}
+use Rattle.refusals.specs.declared.Refusal.{Refusal}
 use Rattle.book_edits.specs.Promise.{AddPromise, RemovePromise, LoadPromise}
-use Rattle.book_edits.specs.declared.Edited.{Edited}
 use Rattle.report.specs.Hits.{is_of, pairs}
 use Rattle.report.specs.Report.{summary_of, report_says}
-use Rattle.report.specs.Answers.{answer_of}
 use Rattle.report.specs.Exact.{wanted, Lists}
 use Rattle.report.specs.Own.{Agree}
 use Rattle.report.specs.Promise.{ReportPromise}
-use Rattle.report.specs.declared.ReportAnswer.{ReportAnswer}
-use Rattle.report.specs.declared.ReportVerdict.TheVariants.{Granted}
+use Rattle.report.specs.Answers.{HasHits}
+use Rattle.report.specs.declared.Summary.{Summary}
 use Rattle.input_lines.specs.Forms.{client_line}
 use Rattle.page_printing.specs.Page.{page_room}
-use Rattle.page_printing.specs.Promise.{said_printed}
-use Rattle.page_printing.specs.declared.Printed.{Printed}
 use Rattle.page.specs.Page.{page_of}
 use Rattle.page.specs.Promise.{PagePromise}
 use Rattle.page.specs.Own.{subs_in, GrantedInput}
@@ -53,12 +50,12 @@ pub record TheHistory : Type 0 where
   pub some_book : (list : List Sub) → Valid list → Afresh form list (built form list)
   pub no_other_book : (list : List Sub) (w : List ℕ) → Afresh form list w → Valid list
   -- answers: each call on such a book answers the number that what stands gives; a load, the one that its items give, whatever stands
-  pub add_answers : (run : List Edit) (book : List ℕ) (place client wish : ℕ) (r : Edited) (left : List ℕ)
-      → Called empty run book → AddPromise book place client wish r left → said_edited r ≡ number (standing run) (adds place client wish)
-  pub remove_answers : (run : List Edit) (book : List ℕ) (place client : ℕ) (r : Edited) (left : List ℕ)
-      → Called empty run book → RemovePromise book place client r left → said_edited r ≡ number (standing run) (removes place client)
-  pub load_answers : (run : List Edit) (book list : List ℕ) (r : Edited) (left : List ℕ)
-      → Called empty run book → LoadPromise book list r left → said_edited r ≡ load_number list
+  pub add_answers : (run : List Edit) (book : List ℕ) (place client wish : ℕ) (r : Result (Unit {0}) Refusal) (left : List ℕ)
+      → Called empty run book → AddPromise book place client wish r left → said r ≡ number (standing run) (adds place client wish)
+  pub remove_answers : (run : List Edit) (book : List ℕ) (place client : ℕ) (r : Result (Unit {0}) Refusal) (left : List ℕ)
+      → Called empty run book → RemovePromise book place client r left → said r ≡ number (standing run) (removes place client)
+  pub load_answers : (run : List Edit) (book list : List ℕ) (r : Result (Unit {0}) Refusal) (left : List ℕ)
+      → Called empty run book → LoadPromise book list r left → said r ≡ load_number list
   -- the same from any good book, loaded or not: what stands is then what it held and what the edits made of it
   pub history_from : (w : List ℕ) (run : List Edit) (z : List ℕ) → good form w ≡ true → Called w run z → Afresh form (standing_from (subs form w) run) z
   -- load-is-adding: a load equals adding each in order to an empty book; the first refusal leaves the old book
@@ -72,25 +69,25 @@ pub record TheHistory : Type 0 where
 
 -- what a report answers and leaves: the list of hits is exactly that, its length is the count told, and its pairs are the words written
 pub record ReportIs
-    (list : List Sub) (book : List ℕ) (client : ℕ) (a : Alert) (text : List ℕ) (at : Clock) (out : List ℕ) (r : ReportAnswer) (left : List ℕ)
+    (list : List Sub) (book : List ℕ) (client : ℕ) (a : Alert) (text : List ℕ) (at : Clock) (out : List ℕ) (r : Result Summary Refusal) (left : List ℕ)
     : Type 0 where
   pub lists : Lists list client a at out (report_says book client text at (length out))
-  pub says : r ≡ answer_of (granted (record { summary = summary_of at a lists.hits; hits = lists.hits }))
-  pub count : r.summary.hits ≡ tally (wanted client a) list
+  pub says : r ≡ Ok (summary_of at a lists.hits)
+  pub count : HasHits (tally (wanted client a) list) r
   pub lent : left ≡ pasted out 0 (pairs lists.hits)
 
 pub record Reports : Type 0 where
-  pub report_exact : (run : List Edit) (book : List ℕ) (client : ℕ) (text : List ℕ) (a : Alert) (at : Clock) (out : List ℕ) (r : ReportAnswer) (left : List ℕ)
+  pub report_exact : (run : List Edit) (book : List ℕ) (client : ℕ) (text : List ℕ) (a : Alert) (at : Clock) (out : List ℕ) (r : Result Summary Refusal) (left : List ℕ)
       → Called empty run book → ReportPromise book client text at out r left
       → bad_client client ≡ false → read_says text ≡ granted a → is_clock at ≡ true → has_day (year_of at a.day a.hour a.minute) a.day ≡ true
       → 2 * tally (wanted client a) (standing run) ≤ length out
       → ReportIs (standing run) book client a text at out r left
   -- a client with nothing in the book gets 0 hits, whatever space is lent: the report is granted, and writes no word of it
-  pub nothing : (run : List Edit) (book : List ℕ) (client : ℕ) (text : List ℕ) (a : Alert) (at : Clock) (out : List ℕ) (r : ReportAnswer) (left : List ℕ)
+  pub nothing : (run : List Edit) (book : List ℕ) (client : ℕ) (text : List ℕ) (a : Alert) (at : Clock) (out : List ℕ) (r : Result Summary Refusal) (left : List ℕ)
       → Called empty run book → ReportPromise book client text at out r left
       → bad_client client ≡ false → read_says text ≡ granted a → is_clock at ≡ true → has_day (year_of at a.day a.hour a.minute) a.day ≡ true
       → tally (is_of client) (standing run) ≡ 0
-      → (r.verdict ≡ Granted) × (r.summary.hits ≡ 0) × (left ≡ out)
+      → HasHits 0 r × (left ≡ out)
 
 -- ---- "Two such books that agree on one client's subscriptions give that client the same report, refusals included."
 
@@ -99,7 +96,7 @@ pub record OwnOnly : Type 0 where
       → (text : List ℕ) (at : Clock) (room : ℕ) → report_says b client text at room ≡ report_says c client text at room
   -- of what the call answers and leaves in the lent words
   pub own_only_answer : (client : ℕ) (h k : List Edit) (b c : List ℕ) → Called empty h b → Called empty k c → Agree (is_of client) (standing h) (standing k)
-      → (text : List ℕ) (at : Clock) (out : List ℕ) (r q : ReportAnswer) (left rest : List ℕ)
+      → (text : List ℕ) (at : Clock) (out : List ℕ) (r q : Result Summary Refusal) (left rest : List ℕ)
       → ReportPromise b client text at out r left → ReportPromise c client text at out q rest → (r ≡ q) × (left ≡ rest)
 
 -- ---- the same of the program's page
@@ -113,8 +110,8 @@ pub record Pages : Type 0 where
   pub page_cut : (input : List ℕ) → page_of (take 98304 input) ≡ page_of input
   -- a named size holds the page of any input, and where it is lent the page is printed
   pub page_in_room : (input : List ℕ) → length (page_of input) ≤ page_room
-  pub page_printed : (input out left : List ℕ) (r : Printed) → PagePromise input out r left → page_room ≤ length out
-      → (said_printed r ≡ granted (length (page_of input))) × (left ≡ pasted out 0 (page_of input))
+  pub page_printed : (input out left : List ℕ) (r : Result ℕ Refusal) → PagePromise input out r left → page_room ≤ length out
+      → (said r ≡ granted (length (page_of input))) × (left ≡ pasted out 0 (page_of input))
 
 pub record Demand3 : Type 0 where
   pub the_history : TheHistory

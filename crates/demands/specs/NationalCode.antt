@@ -1,5 +1,5 @@
 -- Paper 02 §6, "The national code": what it says of places and of reports, in its order.
-use Rattle.std.specs.Prelude.{ℕ, ◌*◌, ◌≤◌, ◌≡◌, Bool, true, false, ◌&&◌, ◌||◌, List, ◌∷◌, length, eqb}
+use Rattle.std.specs.Prelude.{ℕ, ◌*◌, ◌≤◌, ◌≡◌, Bool, true, false, ◌&&◌, ◌||◌, List, ◌∷◌, length, eqb, Result, Ok}
 use Rattle.laws.specs.Order.{granted, choose}
 use Rattle.laws.specs.Lists.{some, tally}
 use Rattle.laws.specs.Space.{pasted}
@@ -17,10 +17,11 @@ use Rattle.book_rules.specs.Subscription.{Sub, how_often}
 use Rattle.book_rules.specs.History.{Edit, standing}
 use Rattle.report.specs.Hits.{has_class, matching, is_of, pairs}
 use Rattle.report.specs.Report.{summary_of}
-use Rattle.report.specs.Answers.{answer_of}
 use Rattle.report.specs.Exact.{After, wanted}
 use Rattle.report.specs.Promise.{ReportPromise}
-use Rattle.report.specs.declared.ReportAnswer.{ReportAnswer}
+use Rattle.refusals.specs.declared.Refusal.{Refusal}
+use Rattle.report.specs.Answers.{HasHits}
+use Rattle.report.specs.declared.Summary.{Summary}
 use Rattle.c_answers.specs.Answer.{number_in, size_or_index_in}
 use Rattle.c_words.specs.Words.{summary_words}
 use Rattle.c_words.specs.Promise.{ReadWordsPromise, ReportWordsPromise}
@@ -72,11 +73,11 @@ pub record AllWished (list : List Sub) (client : ℕ) (a : Alert) (hits : List S
   pub order : After 0 hits
 
 -- what a report answers and leaves
-pub record NationalReport (list : List Sub) (client : ℕ) (a : Alert) (at : Clock) (out : List ℕ) (r : ReportAnswer) (left : List ℕ) : Type 0 where
+pub record NationalReport (list : List Sub) (client : ℕ) (a : Alert) (at : Clock) (out : List ℕ) (r : Result Summary Refusal) (left : List ℕ) : Type 0 where
   pub hits : List Sub
   pub lists : AllWished list client a hits
-  pub says : r ≡ answer_of (granted (record { summary = summary_of at a hits; hits = hits }))
-  pub count : r.summary.hits ≡ tally (wished client a) list
+  pub says : r ≡ Ok (summary_of at a hits)
+  pub count : HasHits (tally (wished client a) list) r
   pub lent : left ≡ pasted out 0 (pairs hits)
 
 -- and what same_report does
@@ -93,7 +94,7 @@ pub record NationalCode : Type 0 where
   pub places : NationalPlaces
   pub headers : NationalHeaders
   -- after any run of edits, a report on a header with 000000 among its places
-  pub report : (run : List Edit) (book : List ℕ) (client : ℕ) (text : List ℕ) (a : Alert) (at : Clock) (out : List ℕ) (r : ReportAnswer) (left : List ℕ)
+  pub report : (run : List Edit) (book : List ℕ) (client : ℕ) (text : List ℕ) (a : Alert) (at : Clock) (out : List ℕ) (r : Result Summary Refusal) (left : List ℕ)
       → Called empty run book → ReportPromise book client text at out r left
       → bad_client client ≡ false → read_says text ≡ granted a → is_clock at ≡ true → has_day (year_of at a.day a.hour a.minute) a.day ≡ true
       → nationwide a.places ≡ true → 2 * tally (wished client a) (standing run) ≤ length out

@@ -1,8 +1,6 @@
 // Each line of the input is a case: an event's code, or a call with its numbers. Prints the line, and what the calls say of it.
 #![tactic(auto)]
 
-ghost use Rattle.std.specs.Prelude.{IfOk, ◌≤◌, length};
-
 mod asked;
 mod said;
 mod shown;
@@ -10,7 +8,7 @@ mod shown;
 use asked::word;
 use shown::{mark, say};
 use std::io;
-use std::io::{Read, Write};
+use std::io::Write;
 
 // A code: whether it is listed, and its class, from the two calls and from the one that says both.
 fn event<W: Write>(out: &mut W, a: u8, b: u8, c: u8) -> io::Result<()> {
@@ -62,33 +60,15 @@ fn case<W: Write>(out: &mut W, line: &[u8]) -> io::Result<()> {
 }
 
 fn cases<W: Write>(out: &mut W, input: &[u8]) -> io::Result<()> {
-    let mut at: usize = 0;
-    while at < input.len() {
-        let e = asked::find(input, at, b'\n');
-        case(out, &input[at..e])?;
-        at = e + 1;
+    for line in input.split_inclusive(|b| *b == b'\n') {
+        case(out, line.strip_suffix(b"\n").unwrap_or(line))?;
     }
     Ok(())
 }
 
 // The input's first 8,192 bytes are read.
-// Reads an input until it ends or the space is full. Says how many bytes it brought.
-fn read_full<R: Read>(input: &mut R, space: &mut [u8]) -> io::Result<usize>
-    ensures { IfOk result (λ n. n ≤ length space.new) }
-{
-    let mut n: usize = 0;
-    while n < space.len() {
-        let k = input.read(&mut space[n..])?;
-        if k == 0 {
-            return Ok(n);
-        }
-        n += k;
-    }
-    Ok(n)
-}
-
 fn main(rt: HostRuntime) -> io::Result<()> {
     let mut input = [0u8; 8192];
-    let n = read_full(&mut rt.stdin(), &mut input)?;
+    let n = reading::read_input(&mut rt.stdin(), &mut input)?;
     cases(&mut rt.stdout(), &input[..n])
 }

@@ -1,6 +1,7 @@
 // What the calls say, each with a space before it.
 use super::shown::{mark, number, pair, say};
-use clock::{Checked, Date, Life, Phase, Stamp, Timed, Times};
+use clock::{MonthDay, Phase, Stamp, Times};
+use refusals::Refusal;
 use std::io;
 use std::io::Write;
 
@@ -18,22 +19,22 @@ pub(crate) fn kind<W: Write>(out: &mut W, listed: bool, class: u32) -> io::Resul
     number(out, class)
 }
 
-fn refused<W: Write>(out: &mut W, n: u32) -> io::Result<()> {
+fn refused<W: Write>(out: &mut W, why: Refusal) -> io::Result<()> {
     say(out, b" refused=")?;
-    number(out, n)
+    number(out, why.number())
 }
 
-pub(crate) fn checked<W: Write>(out: &mut W, answer: Checked) -> io::Result<()> {
+pub(crate) fn checked<W: Write>(out: &mut W, answer: Result<(), Refusal>) -> io::Result<()> {
     match answer {
-        Checked::Good => say(out, b" good"),
-        Checked::Bad(n) => refused(out, n),
+        Ok(()) => say(out, b" good"),
+        Err(why) => refused(out, why),
     }
 }
 
-pub(crate) fn date<W: Write>(out: &mut W, answer: Date) -> io::Result<()> {
+pub(crate) fn date<W: Write>(out: &mut W, answer: Result<MonthDay, Refusal>) -> io::Result<()> {
     match answer {
-        Date::On(date) => pair(out, b' ', date.month, b'-', date.day),
-        Date::NoDate(n) => refused(out, n),
+        Ok(date) => pair(out, b' ', date.month, b'-', date.day),
+        Err(why) => refused(out, why),
     }
 }
 
@@ -51,24 +52,21 @@ fn phase<W: Write>(out: &mut W, p: Phase) -> io::Result<()> {
 }
 
 fn times<W: Write>(out: &mut W, t: Times) -> io::Result<()> {
-    let issued = t.issued;
-    let until = t.until;
-    let now = t.phase;
-    stamp(out, issued)?;
-    stamp(out, until)?;
-    phase(out, now)
+    stamp(out, t.issued)?;
+    stamp(out, t.until)?;
+    phase(out, t.phase)
 }
 
-pub(crate) fn timed<W: Write>(out: &mut W, answer: Timed) -> io::Result<()> {
+pub(crate) fn timed<W: Write>(out: &mut W, answer: Result<Times, Refusal>) -> io::Result<()> {
     match answer {
-        Timed::Are(t) => times(out, t),
-        Timed::NoTimes(n) => refused(out, n),
+        Ok(t) => times(out, t),
+        Err(why) => refused(out, why),
     }
 }
 
-pub(crate) fn life<W: Write>(out: &mut W, answer: Life) -> io::Result<()> {
+pub(crate) fn life<W: Write>(out: &mut W, answer: Result<Phase, Refusal>) -> io::Result<()> {
     match answer {
-        Life::Is(now) => phase(out, now),
-        Life::NoLife(n) => refused(out, n),
+        Ok(now) => phase(out, now),
+        Err(why) => refused(out, why),
     }
 }

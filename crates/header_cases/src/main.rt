@@ -6,7 +6,7 @@ ghost use Rattle.std.specs.Prelude.{◌≤◌, length, IfOk};
 
 use header::{Fields, ReadVerdict, Wrote};
 use std::io;
-use std::io::{Read, Write};
+use std::io::Write;
 
 fn word<W: Write>(out: &mut W, s: &[u8]) -> io::Result<()> {
     out.write_all(s)
@@ -213,23 +213,8 @@ fn run<W: Write>(out: &mut W, input: &[u8]) -> io::Result<()> {
 }
 
 // The input's first 16,384 bytes are read.
-// Reads an input until it ends or the space is full. Says how many bytes it brought.
-fn read_full<R: Read>(input: &mut R, space: &mut [u8]) -> io::Result<usize>
-    ensures { IfOk result (λ n. n ≤ length space.new) }
-{
-    let mut n: usize = 0;
-    while n < space.len() {
-        let k = input.read(&mut space[n..])?;
-        if k == 0 {
-            return Ok(n);
-        }
-        n += k;
-    }
-    Ok(n)
-}
-
 fn main(rt: HostRuntime) -> io::Result<()> {
     let mut input = [0u8; 16384];
-    let n = read_full(&mut rt.stdin(), &mut input)?;
+    let n = reading::read_input(&mut rt.stdin(), &mut input)?;
     run(&mut rt.stdout(), &input[..n])
 }

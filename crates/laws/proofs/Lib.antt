@@ -23,3 +23,4 @@ pub mod OrZero
 pub mod Plain
 pub mod Next
 pub mod Prefixes
+pub mod Handed

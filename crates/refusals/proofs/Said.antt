@@ -1,11 +1,11 @@
 -- What a refusal says is refused: it is never granted, what would come next is not said, and lent space is as it was found.
-use Rattle.std.specs.Prelude.{◌≡◌, true}
+use Rattle.std.specs.Prelude.{◌≡◌, true, Result, Ok, Err, IsErr, IsErrAnd}
 use mathlib.Core.Path.{refl, sym, ap, ◌∙◌}
 use Rattle.laws.proofs.Tests.{impossible}
 use Rattle.laws.proofs.Order.{refusal_leaves}
-use Rattle.laws.specs.Order.{Said, granted, is_refusal, next}
+use Rattle.laws.specs.Order.{Said, granted, refused, is_refusal, next}
 use Rattle.laws.specs.Space.{leaves}
-use Rattle.refusals.specs.Refusals.{says}
+use Rattle.refusals.specs.Refusals.{says, said}
 use Rattle.refusals.specs.declared.Refusal.{Refusal}
 use Rattle.refusals.specs.declared.Refusal.TheVariants.{LongBurst, NoText, ClashAt, LongText, NoStartAt, NoOriginAt, NoEventAt, NoPlaceAt, NoDurationAt, NoIssueAt, NoSenderAt, MoreAt, BadOrigin, BadEvent, BadPlaces, BadDuration, BadIssue, BadSender, NoRoom, NoSuchDay, BadClock, BadBook, BadClient, BadPlace, BadWish, StandsAlready, StandsNot, FullBook, Malformed}
 
@@ -79,3 +79,12 @@ next_refused Malformed k = refl
 -- a refusal leaves lent space as found
 pub leaves_refused : {A B : Type 0} (effect : A → B → B) (e : Refusal) (d : B) → leaves effect (says e) d ≡ d
 leaves_refused {A} effect e d = refusal_leaves effect (says e) d (says_refused A e)
+
+-- a refusal that `?` hands on
+pub handed_on : {A : Type 0} {s : Said A} (e : Refusal) (r : Result A Refusal) → IsErr r × IsErrAnd r (λ y. y ≡ e) → says e ≡ s → said r ≡ s
+handed_on e (Ok a) h p = absurd h.1
+handed_on e (Err y) h p = ap says h.1 ∙ p
+
+-- what it says, it says of every kind of value
+pub says_moved : {A B : Type 0} (e : Refusal) (s : Said A) → says e ≡ s → next {B = B} s (λ a. refused 0) ≡ says e
+says_moved e s p = ap (λ s. next s (λ a. refused 0)) (sym p) ∙ next_refused e (λ a. refused 0)

@@ -5,7 +5,7 @@ use mathlib.Core.List.{List, [], ◌∷◌, ◌++◌}
 use Prim.Native.Nat.{ℕ, ◌*◌, ◌≤◌}
 use borrow.Author.Tests.{ltb-false}
 use lib.ListN.{length}
-use Rattle.laws.specs.Order.{Said, granted, refused, choose, Row, ◌when◌, Quiet, none, more}
+use Rattle.laws.specs.Order.{Said, granted, refused, refused_at, choose, Row, ◌when◌, Quiet, none, more}
 use Rattle.laws.proofs.Clash.{clash}
 use Rattle.laws.proofs.Order.{said_last, granted_quiet}
 use Rattle.laws.proofs.Quiet.{quiet_right}
@@ -19,9 +19,11 @@ use Rattle.book_rules.specs.Subscription.{Sub}
 use Rattle.book_rules.specs.Afresh.{subs}
 use Rattle.report.specs.Hits.{hits_of}
 use Rattle.report.specs.Report.{Full, summary_of, times_rows, room_rows, alert_says, list_says, report_says}
-use Rattle.report.specs.Answers.{answer_of, verdict_of, summary_in}
+use Rattle.refusals.specs.Refusals.{says}
+use Rattle.refusals.specs.declared.Refusal.{Refusal}
+use Rattle.refusals.proofs.Said.{never_granted, says_moved}
+use Rattle.report.specs.Answers.{answer_says}
 use Rattle.report.specs.declared.Summary.{Summary}
-use Rattle.report.specs.declared.ReportAnswer.{ReportAnswer}
 
 -- a row that was passed
 past : {A : Type 0} (b : Bool) (n : ℕ) (rest : Said A) (g : A) → choose b (refused n) rest ≡ granted g → (b ≡ false) × (rest ≡ granted g)
@@ -76,12 +78,14 @@ pub count_given : (book : List ℕ) (client : ℕ) (text : List ℕ) (at : Clock
 unfolding summary_of
 count_given book client text at room g k = ap (λ (s : Summary). s.hits) k.summary
 
--- ---- the parts of an answer, for those who call
+-- ---- an answer's two cases, for those who call
 
-pub answer_verdict : (s : Said Full) (r : ReportAnswer) → r ≡ answer_of s → r.verdict ≡ verdict_of s
-unfolding answer_of
-answer_verdict s r e = ap (λ (x : ReportAnswer). x.verdict) e
+pub answer_ok : (o : Said Full) (s : Summary) → granted s ≡ answer_says o → (g : Full) × (o ≡ granted g) × (g.summary ≡ s)
+answer_ok (granted g) s e = (g, refl, cc)
+answer_ok (refused n) s e = clash cc
+answer_ok (refused_at n i) s e = clash cc
 
-pub answer_summary : (s : Said Full) (r : ReportAnswer) → r ≡ answer_of s → r.summary ≡ summary_in s
-unfolding answer_of
-answer_summary s r e = ap (λ (x : ReportAnswer). x.summary) e
+pub answer_err : (o : Said Full) (e : Refusal) → says e ≡ answer_says o → o ≡ says e
+answer_err (granted g) e p = never_granted e p
+answer_err (refused n) e p = says_moved e (refused n) p
+answer_err (refused_at n i) e p = says_moved e (refused_at n i) p

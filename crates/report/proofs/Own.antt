@@ -24,11 +24,14 @@ use Rattle.book_history.proofs.Afresh.{book_rise}
 use Rattle.book_history.proofs.Proved.{form_book_and_history}
 use Rattle.report.specs.Hits.{is_of, hits_of}
 use Rattle.report.specs.Report.{Full, alert_says, list_says, report_says}
-use Rattle.report.specs.Answers.{answer_of}
+use Rattle.std.specs.Prelude.{Result}
+use Rattle.refusals.specs.declared.Refusal.{Refusal}
+use Rattle.refusals.proofs.NoChoice.{said_one}
+use Rattle.report.specs.Answers.{answer_says}
 use Rattle.report.specs.Promise.{writes_hits, ReportPromise}
 use Rattle.report.specs.Exact.{wanted}
 use Rattle.report.specs.Own.{Agree, Covers}
-use Rattle.report.specs.declared.ReportAnswer.{ReportAnswer}
+use Rattle.report.specs.declared.Summary.{Summary}
 use Rattle.report.proofs.Exact.{hit_own}
 
 module _ (own : Sub → Bool) (client : ℕ) (covers : Covers own client) (s t : List Sub) (b c : List ℕ)
@@ -76,12 +79,12 @@ own_only own client covers h k agree =
 
 -- the same of what the call answers and leaves in the lent words
 pub own_only_answer : (own : Sub → Bool) (client : ℕ) → Covers own client → (h k : List Edit) → Agree own (standing h) (standing k)
-    → (text : List ℕ) (at : Clock) (out : List ℕ) (r q : ReportAnswer) (left rest : List ℕ)
+    → (text : List ℕ) (at : Clock) (out : List ℕ) (r q : Result Summary Refusal) (left rest : List ℕ)
     → ReportPromise (book_after form h) client text at out r left → ReportPromise (book_after form k) client text at out q rest
     → (r ≡ q) × (left ≡ rest)
 own_only_answer own client covers h k agree text at out r q left rest p u =
     let e = own_only own client covers h k agree text at (length out) in
-    (p.says ∙ ap answer_of e ∙ sym u.says, p.lent ∙ ap (λ (s : Said Full). leaves writes_hits s out) e ∙ sym u.lent)
+    (said_one r q (p.says ∙ ap answer_says e ∙ sym u.says), p.lent ∙ ap (λ (s : Said Full). leaves writes_hits s out) e ∙ sym u.lent)
 
 -- one client's own subscriptions are a test
 pub own_client : (client : ℕ) → Covers (is_of client) client

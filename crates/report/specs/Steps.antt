@@ -1,6 +1,6 @@
 -- What the private functions of a report do.
-use Rattle.std.specs.Prelude.{ℕ, ◌+◌, ◌*◌, ◌≤◌, Bool, true, ◌&&◌, List, [], ◌∷◌, map, ◌≡◌, length, ltb, eqb}
-use Rattle.laws.specs.Order.{Said, granted, choose, in_order}
+use Rattle.std.specs.Prelude.{ℕ, ◌+◌, ◌*◌, ◌≤◌, Bool, true, ◌&&◌, List, [], ◌∷◌, map, ◌≡◌, length, ltb, eqb, Result}
+use Rattle.laws.specs.Order.{Said, granted, refused, ◌when◌, choose, in_order}
 use Rattle.laws.specs.Lists.{every, table, keep}
 use Rattle.laws.specs.Space.{pasted, leaves}
 use Rattle.header.specs.Header.{Alert}
@@ -19,12 +19,12 @@ use Rattle.book_rules.specs.Subscription.{Sub}
 use Rattle.book_rules.specs.Afresh.{sub_of}
 use Rattle.report.specs.Hits.{has_class, pairs}
 use Rattle.report.specs.Report.{Full, alert_says, room_rows}
-use Rattle.report.specs.Answers.{answer_of}
+use Rattle.report.specs.Answers.{answer_says}
 use Rattle.report.specs.Promise.{writes_hits}
-use Rattle.report.specs.declared.ReportAnswer.{ReportAnswer}
+use Rattle.report.specs.declared.Summary.{Summary}
+use Rattle.refusals.specs.Refusals.{said}
+use Rattle.refusals.specs.declared.Refusal.{Refusal}
 use Rattle.report.specs.declared.Wanted.{Wanted}
-use Rattle.report.specs.declared.HitList.{HitList}
-use Rattle.report.specs.declared.HitList.TheVariants.{All, Short}
 
 -- a record of two words
 abbrev pub rec : ℕ → ℕ → Rec
@@ -60,8 +60,8 @@ pub record WroteHits (d : List ℕ) (at : ℕ) (s d' : List ℕ) (r : ℕ) : Typ
   pub next : r ≡ at + length s
 
 -- the hits that were written: how many; or too little room, and nothing is written
-pub record ListsHits (hits : List Sub) (out : List ℕ) (r : HitList) (left : List ℕ) : Type 0 where
-  pub says : r ≡ choose (ltb (length out) (2 * length hits)) Short (All (length hits))
+pub record ListsHits (hits : List Sub) (out : List ℕ) (r : Result ℕ Refusal) (left : List ℕ) : Type 0 where
+  pub says : said r ≡ in_order (refused 13 when ltb (length out) (2 * length hits) ∷ []) (granted (length hits))
   pub lent : left ≡ choose (ltb (length out) (2 * length hits)) out (pasted out 0 (pairs hits))
 
 abbrev pub listed_class_of : List ℕ → ListedClass
@@ -76,8 +76,8 @@ timed_says times room a hits =
       hits = hits;
     }))
 
-pub record TimedReport (times : Times) (a : Alert) (hits : List Sub) (out : List ℕ) (r : ReportAnswer) (left : List ℕ) : Type 0 where
-  pub says : r ≡ answer_of (timed_says times (length out) a hits)
+pub record TimedReport (times : Times) (a : Alert) (hits : List Sub) (out : List ℕ) (r : Result Summary Refusal) (left : List ℕ) : Type 0 where
+  pub says : said r ≡ answer_says (timed_says times (length out) a hits)
   pub lent : left ≡ leaves writes_hits (timed_says times (length out) a hits) out
 
 -- fields that were read: so many places as are counted, each of six digits
@@ -92,6 +92,6 @@ pub record Readable (f : Fields) : Type 0 where
   pub lasts : is_duration f.duration ≡ true
 
 -- a report on an alert that was read
-pub record AlertReport (at : Clock) (a : Alert) (hits : List Sub) (out : List ℕ) (r : ReportAnswer) (left : List ℕ) : Type 0 where
-  pub says : r ≡ answer_of (alert_says at (length out) a hits)
+pub record AlertReport (at : Clock) (a : Alert) (hits : List Sub) (out : List ℕ) (r : Result Summary Refusal) (left : List ℕ) : Type 0 where
+  pub says : said r ≡ answer_says (alert_says at (length out) a hits)
   pub lent : left ≡ leaves writes_hits (alert_says at (length out) a hits) out

@@ -11,9 +11,7 @@ ghost use Rattle.report.specs.Hits.{has_class, hits_of};
 ghost use Rattle.report.specs.Promise.{ReportPromise};
 ghost use Rattle.report.specs.Steps.{rec, record_matches, found, hit_subs, span, hit_words, WroteHits, ListsHits, listed_class_of, TimedReport, PlacesRead, Readable, AlertReport};
 
-use refusals::{refusal, refusal_at};
-
-mod refusals;
+use refusals::Refusal;
 
 // What a report says of the text.
 #[derive(Clone, Copy)]
@@ -23,20 +21,6 @@ pub struct Summary {
     pub listed: bool,
     pub class: u32,
     pub hits: usize,
-}
-
-#[derive(Clone, Copy)]
-pub enum ReportVerdict {
-    Granted,
-    Refused(u32),
-    RefusedAt(u32, usize),
-}
-
-// The summary of a refusal is all zeros.
-#[derive(Clone, Copy)]
-pub struct ReportAnswer {
-    pub verdict: ReportVerdict,
-    pub summary: Summary,
 }
 
 // ---- hits
@@ -137,13 +121,6 @@ fn write_hits(
     e
 }
 
-// The hits of a report: how many were written, or too little room.
-#[derive(Clone, Copy)]
-enum HitList {
-    All(usize),
-    Short,
-}
-
 // Whether the hits of a book find room in so many words. Where every record of the book does, the hits need no count.
 fn has_room(book: &[u32], wanted: Wanted, sent: &[u32], room: usize) -> bool
     requires { good form book.now ≡ true }
@@ -158,16 +135,16 @@ fn has_room(book: &[u32], wanted: Wanted, sent: &[u32], room: usize) -> bool
 
 // Writes the hits where there is room for them. Too little room must write nothing, so it is asked for first: one pass over the
 // records, or two, of which the first counts.
-fn list_hits(book: &[u32], wanted: Wanted, sent: &[u32], out: &mut [u32]) -> HitList
+fn list_hits(book: &[u32], wanted: Wanted, sent: &[u32], out: &mut [u32]) -> Result<usize, Refusal>
     requires { good form book.now ≡ true }
     ensures { ListsHits (hit_subs (found wanted sent.now) book.now) out.old result out.new }
 {
     if !has_room(book, wanted, sent, out.len()) {
-        return HitList::Short;
+        return Err(Refusal::NoRoom);
     }
     let total = book[100] as usize;
     let end = write_hits(book, 0, total, wanted, sent, out, 0);
-    HitList::All(end / 2)
+    Ok(end / 2)
 }
 
 // ---- the report
@@ -187,7 +164,7 @@ fn timed_report(
     f: header::Fields,
     times: clock::Times,
     out: &mut [u32],
-) -> ReportAnswer
+) -> Result<Summary, Refusal>
     requires { (good form book.now ≡ true) × PlacesRead f }
     ensures { TimedReport times (alert_in f) (hits_of client (alert_in f) (subs form book.now)) out.old result out.new }
 {
@@ -199,22 +176,14 @@ fn timed_report(
         client,
         class: kind.class,
     };
-    let listed = list_hits(book, wanted, &places[..n], out);
-    let HitList::All(hits) = listed else {
-        return refusal(13);
-    };
-    let event = f.event;
-    let summary = Summary {
+    let hits = list_hits(book, wanted, &places[..n], out)?;
+    Ok(Summary {
         times,
-        event,
+        event: f.event,
         listed: kind.listed,
         class: kind.class,
         hits,
-    };
-    ReportAnswer {
-        verdict: ReportVerdict::Granted,
-        summary,
-    }
+    })
 }
 
 // A report on an alert that was read.
@@ -224,15 +193,12 @@ fn alert_report(
     f: header::Fields,
     at: clock::Clock,
     out: &mut [u32],
-) -> ReportAnswer
+) -> Result<Summary, Refusal>
     requires { (good form book.now ≡ true) × Readable f }
     ensures { AlertReport at (alert_in f) (hits_of client (alert_in f) (subs form book.now)) out.old result out.new }
 {
-    let timed = clock::times_of(at, f.day, f.hour, f.minute, f.duration);
-    match timed {
-        clock::Timed::Are(times) => timed_report(book, client, f, times, out),
-        clock::Timed::NoTimes(n) => refusal(n),
-    }
+    let times = clock::times_of(at, f.day, f.hour, f.minute, f.duration)?;
+    timed_report(book, client, f, times, out)
 }
 
 // One client's report: the summary, and the hits written as pairs of place and wish; or a refusal, and nothing is written. One
@@ -243,19 +209,15 @@ pub fn report(
     header: &[u8],
     at: clock::Clock,
     out: &mut [u32],
-) -> ReportAnswer
+) -> Result<Summary, Refusal>
     ensures { ReportPromise book.now client header.now at out.old result out.new }
 {
     if !book_check::is_good(book) {
-        return refusal(16);
+        return Err(Refusal::BadBook);
     }
     if book_records::bad_client(client) {
-        return refusal(17);
+        return Err(Refusal::BadClient);
     }
-    let read = header_reading::read(header);
-    let verdict = read.verdict;
-    match verdict {
-        header::ReadVerdict::Reads => alert_report(book, client, read.fields, at, out),
-        header::ReadVerdict::StopsAt(n, i) => refusal_at(n, i),
-    }
+    let fields = header_reading::read(header)?;
+    alert_report(book, client, fields, at, out)
 }

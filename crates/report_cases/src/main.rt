@@ -8,25 +8,10 @@ use std::io::{Read, Write};
 use std::rt::Files;
 use std::{fs, io};
 
-// Reads an input until it ends or the space is full. Says how many bytes it brought.
-fn read_full<R: Read>(input: &mut R, space: &mut [u8]) -> io::Result<usize>
-    ensures { IfOk result (λ n. n ≤ length space.new) }
-{
-    let mut n: usize = 0;
-    while n < space.len() {
-        let k = input.read(&mut space[n..])?;
-        if k == 0 {
-            return Ok(n);
-        }
-        n += k;
-    }
-    Ok(n)
-}
-
 // The page of what a file holds: of its first 98,304 bytes.
 fn print_page<R: Read, W: Write>(file: &mut R, out: &mut W) -> io::Result<()> {
     let mut input = [0u8; 98304];
-    let n = read_full(file, &mut input)?;
+    let n = reading::read_input(file, &mut input)?;
     let mut space = [0u8; 65536];
     let answer = page::page(&input[..n], &mut space);
     let Printed::Bytes(k) = answer else {

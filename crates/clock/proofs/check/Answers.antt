@@ -1,4 +1,4 @@
--- Whether the clock is in range decides between good and 15.
+-- Whether the clock is in range decides between granted and 15.
 use mathlib.Core.Path.{◌≡◌, sym, ◌∙◌}
 use mathlib.Core.Bool.{true, false}
 use Rattle.clock.specs.Clock.{is_clock}

@@ -1,23 +1,24 @@
 -- The clock says 15 or 14, and the report with it; or the times, and the rest says the report.
-use mathlib.Core.Path.{sym, ap, ◌∙◌}
+use mathlib.Core.Path.{refl, sym, ap, ◌∙◌}
+use Rattle.refusals.proofs.Said.{handed_on}
+use Rattle.refusals.specs.Refusals.{said}
 use Rattle.header.specs.Answers.{alert_in}
-use Rattle.clock.specs.Answers.{said_timed}
 use Rattle.book_rules.specs.Form.{form}
 use Rattle.book_rules.specs.Afresh.{subs}
 use Rattle.report.specs.Hits.{hits_of}
 use Rattle.report.proofs.Stages.{untimely, timely}
 use Rattle.report.proofs.alert_report.Goals as goal
 
-pub returns-in-Are : goal.returns-in-Are
-returns-in-Are c =
-    let a = c.args in
-    timely a.at a.f c.requires.1 (hits_of a.client (alert_in a.f) (subs form a.book.now)) a.out.now
-    c.in-Are.times c.timed_report.result _
-    (sym c.times_of-timed.ensures.says ∙ ap said_timed c.in-Are.is) c.timed_report.ensures
-
-pub returns-in-NoTimes : goal.returns-in-NoTimes
-returns-in-NoTimes c =
+pub returns-in_err-times : goal.returns-in_err-times
+returns-in_err-times c =
     let a = c.args in
     untimely a.at a.f c.requires.1 (hits_of a.client (alert_in a.f) (subs form a.book.now)) a.out.now
-    c.in-NoTimes.n c.refusal.result
-    (sym c.times_of-timed.ensures.says ∙ ap said_timed c.in-NoTimes.is) c.refusal.ensures
+    c.in_err-times.field-0.0 c.from_residual.result (sym c.times_of.ensures.says ∙ ap said c.in_err-times.was)
+    (handed_on c.in_err-times.field-0.0 c.from_residual.result c.from_residual.ensures refl)
+
+pub returns : goal.returns
+returns c =
+    let a = c.args in
+    timely a.at a.f c.requires.1 (hits_of a.client (alert_in a.f) (subs form a.book.now)) a.out.now
+    c.in_ok-times.times c.timed_report.result _
+    (sym c.times_of.ensures.says ∙ ap said c.in_ok-times.was) c.timed_report.ensures

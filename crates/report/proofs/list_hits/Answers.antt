@@ -13,7 +13,8 @@ use Rattle.book_rules.specs.Form.{form}
 use Rattle.book_rules.specs.Rules.{Rec, total}
 use Rattle.book_rules.proofs.Good.{good_says}
 use Rattle.report.specs.Steps.{found, hit_subs, span, hit_words, WroteHits, ListsHits}
-use Rattle.report.specs.declared.HitList.TheVariants.{All, Short}
+use Rattle.std.specs.Prelude.{Ok, Err}
+use Rattle.refusals.specs.declared.Refusal.TheVariants.{NoRoom}
 use Rattle.report.proofs.Spans.{words_length, book_words, book_count}
 use Rattle.report.proofs.list_hits.Goals as goal
 
@@ -21,11 +22,11 @@ module _ (k : Rec → Bool) (w out : List ℕ) where
   abbrev too_few : Bool
   too_few = ltb (length out) (2 * length (hit_subs k w))
 
-  short : too_few ≡ true → ListsHits (hit_subs k w) out Short out
+  short : too_few ≡ true → ListsHits (hit_subs k w) out (Err NoRoom) out
   short b = record { says = rw b; lent = rw b }
 
   all : (r : ℕ) (left : List ℕ) → too_few ≡ false → WroteHits out 0 (hit_words k (span w 0 (total w - 0))) left r
-      → ListsHits (hit_subs k w) out (All (r / 2)) left
+      → ListsHits (hit_subs k w) out (Ok (r / 2)) left
   all r left b p =
       let e = p.next in
       let l = words_length k (span w 0 (total w - 0)) in
