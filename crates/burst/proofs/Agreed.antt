@@ -1,26 +1,74 @@
 -- Each way out of the vote over plain values: which row of the order holds there, and what is left in the space lent.
 use mathlib.Core.Path.{◌≡◌, refl, sym, ap, ◌∙◌}
-use mathlib.Core.Bool.{Bool, true, false}
+use mathlib.Core.Bool.{Bool, true, false, cond, not}
 use mathlib.Core.List.{List}
-use Prim.Native.Nat.{ℕ, ◌-◌, ◌≤◌, ◌<◌}
+use Prim.Native.Nat.{ℕ, zero, suc, ◌+◌, ◌-◌, ◌≤◌, ◌<◌}
 use native.Mathlib.Omega.{arith}
-use borrow.Author.Tests.{eq-eqb, ne_eqb, lt-ltb, le-ltb}
-use lib.Dec.{ltb}
-use lib.ListN.{length}
+use borrow.Author.Tests.{eq-eqb, ne_eqb, lt-ltb, le-ltb, ltb-true, ltb-false}
+use lib.Dec.{eqb, ltb}
+use lib.ListN.{length, take, drop, get_or}
 use Rattle.laws.specs.Order.{Said, granted, refused_at, choose, in_order}
 use Rattle.laws.specs.Space.{pasted, leaves}
 use Rattle.laws.proofs.Tables.{length_table}
-use Rattle.laws.proofs.Parts.{length_part}
+use Rattle.laws.proofs.Parts.{length_part, part_cons}
 use Rattle.laws.proofs.Pasted.{glue}
-use Rattle.std.specs.Prelude.{Result, Ok, Err}
+use Rattle.std.specs.Prelude.{Result, Ok, Err, Some, None, position}
+use Rattle.std.specs.List.{zip, position_or_len}
+use Rattle.std.proofs.lemmas.Slice.Zip.{length-zip}
+use Rattle.laws.specs.Lists.{lowest}
+use Rattle.laws.proofs.Clash.{clash}
 use Rattle.refusals.specs.Refusals.{said}
 use Rattle.refusals.specs.declared.Refusal.{Refusal}
 use Rattle.refusals.specs.declared.Refusal.TheVariants.{LongBurst, NoText, ClashAt, LongText, NoRoom}
 use Rattle.burst.specs.Strip.{lead, stripped}
 use Rattle.burst.specs.Vote.{voted_length, clash_at, voted_text, too_long, vote_rows, vote_says, vote_leaves}
 use Rattle.burst.specs.Promise.{VotePromise}
-use Rattle.burst.specs.Steps.{first_difference, voted_bytes, stretch, blended, Agrees, Decides}
+use Rattle.burst.specs.Steps.{differs, first_difference, voted_bytes, stretch, blended, Agrees, Decides}
 use Rattle.burst.proofs.Arranged.{Arranged, clash_is, text_is}
+
+-- ---- what the search finds, from where only two reach
+
+abbrev differ : ℕ × ℕ → Bool
+differ x = not (eqb x.0 x.1)
+
+sought : (p q : List ℕ) (m w : ℕ) → m + w ≤ length p → m + w ≤ length q
+    → m + position_or_len differ (zip (take w (drop m p)) (take w (drop m q))) ≡ lowest (differs p q) m w
+unfolding lowest
+sought p q m zero h g = omega arith
+sought p q m (suc w) h g =
+    rw (part_cons p m w (omega arith), part_cons q m w (omega arith))
+    (by (eqb (get_or p m 0) (get_or q m 0)) (sought p q (m + 1) w (omega arith) (omega arith)))
+  where
+    by : (b : Bool) → m + 1 + position_or_len differ (zip (take w (drop (m + 1) p)) (take w (drop (m + 1) q))) ≡ lowest (differs p q) (m + 1) w
+        → m + cond (not (not b)) (1 + position_or_len differ (zip (take w (drop (m + 1) p)) (take w (drop (m + 1) q)))) 0
+        ≡ choose (not b) m (lowest (differs p q) (m + 1) w)
+    by true e = omega arith
+    by false e = omega arith
+
+-- of a search that found an index, and of one that found none
+some_at : (b : Bool) (j k : ℕ) → Some k ≡ cond b (Some j) None → (b ≡ true) × (k ≡ j)
+some_at true j k e = (refl, cc)
+some_at false j k e = clash cc
+
+none_at : (b : Bool) (j : ℕ) → None ≡ cond b (Some j) None → b ≡ false
+none_at true j e = clash cc
+none_at false j e = refl
+
+module _ (p q : List ℕ) (m n : ℕ) (h : m ≤ n) (r : n ≤ length p) (t : n ≤ length q) where
+  pub found : (k : ℕ) → Some k ≡ position differ (zip (stretch p m n) (stretch q m n)) → (m + k < n) × (m + k ≡ first_difference p q m n)
+  found k e =
+      let z = zip (stretch p m n) (stretch q m n) in
+      let f = some_at (ltb (position_or_len differ z) (length z)) (position_or_len differ z) k e in
+      let l : length z ≡ n - m = length-zip (stretch p m n) (stretch q m n) ∙ omega (arith, length_part p m (n - m) (omega arith), length_part q m (n - m) (omega arith)) in
+      let b : position_or_len differ z < length z = ltb-true _ _ f.0 in
+      (omega (arith, f.1), ap (λ (j : ℕ). m + j) f.1 ∙ sought p q m (n - m) (omega arith) (omega arith))
+
+  pub not_found : None ≡ position differ (zip (stretch p m n) (stretch q m n)) → n ≤ first_difference p q m n
+  not_found e =
+      let z = zip (stretch p m n) (stretch q m n) in
+      let l : length z ≡ n - m = length-zip (stretch p m n) (stretch q m n) ∙ omega (arith, length_part p m (n - m) (omega arith), length_part q m (n - m) (omega arith)) in
+      let b : length z ≤ position_or_len differ z = ltb-false _ _ (none_at (ltb (position_or_len differ z) (length z)) (position_or_len differ z) e) in
+      omega (arith, sought p q m (n - m) (omega arith) (omega arith))
 
 -- ---- two bursts searched, three written
 

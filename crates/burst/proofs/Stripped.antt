@@ -1,12 +1,13 @@
 -- How many bytes are dropped is told by the bytes themselves: those count, and then comes one that does not, or the 17th, or the end.
 use mathlib.Core.Path.{◌≡◌, refl}
-use mathlib.Core.Bool.{Bool, true, false}
+use mathlib.Core.Bool.{Bool, true, false, cond}
 use mathlib.Core.Logic.{⊎_elim}
 use mathlib.Core.List.{List, [], ◌∷◌}
-use Prim.Native.Nat.{ℕ, zero, suc, ◌+◌, ◌-◌, ◌≤◌, ◌<◌, min}
+use Prim.Native.Nat.{ℕ, zero, suc, ◌+◌, ◌-◌, ◌≤◌, ◌<◌}
 use native.Mathlib.Omega.{arith}
 use lib.ListN.{length, take, drop, get_or, length-drop}
 use lib.Seq.{get_or-drop, take_all}
+use Rattle.std.specs.List.{prefix_len}
 use Rattle.laws.specs.Order.{choose}
 use Rattle.laws.proofs.Tests.{no_both, le_or_lt}
 use Rattle.burst.specs.Strip.{preamble, lead_up_to, lead, stripped}
@@ -76,28 +77,19 @@ pub stripped_bytes : (l : List ℕ) → Bytes l → Bytes (stripped l)
 unfolding stripped
 stripped_bytes l b i = rw (get_or-drop (lead l) l i 0) (b (lead l + i))
 
--- ---- the loop that counts: all bytes before index i count
+-- ---- as the code counts: those of the first 16 that pass from the front on
 
-pub record Counted (l : List ℕ) (i : ℕ) : Type 0 where
-  pub within : i ≤ min (length l) 16
-  pub each : (j : ℕ) → j < i → preamble (get_or l j 0) ≡ true
+up_to : (n : ℕ) (l : List ℕ) → prefix_len preamble (take n l) ≡ lead_up_to n l
+unfolding lead_up_to
+up_to zero l = refl
+up_to (suc n) [] = refl
+up_to (suc n) (x ∷ xs) = by (preamble x) (up_to n xs)
+  where
+    by : (b : Bool) → prefix_len preamble (take n xs) ≡ lead_up_to n xs
+        → cond b (1 + prefix_len preamble (take n xs)) 0 ≡ choose b (suc (lead_up_to n xs)) 0
+    by true e = rw e (omega arith)
+    by false e = refl
 
-module _ (l : List ℕ) where
-  pub begun : Counted l 0
-  begun = record { within = omega arith; each = λ j h. absurd (omega arith) }
-
-module _ (l : List ℕ) (i : ℕ) (c : Counted l i) where
-  pub passed : i < min (length l) 16 → preamble (get_or l i 0) ≡ true → Counted l (i + 1)
-  passed h e = record {
-    within = omega arith;
-    each = λ j g. ⊎_elim (λ f. c.each j f) (λ f. let q : j ≡ i = omega arith in rw q e) (le_or_lt j i);
-  }
-
-  told : (i < 16 → i < length l → preamble (get_or l i 0) ≡ false) → i ≡ lead l
-  told e = lead_is l i (record { within = omega (arith, c.within); most = omega (arith, c.within); each = c.each; ends = e })
-
-  pub failed : preamble (get_or l i 0) ≡ false → i ≡ lead l
-  failed e = told (λ f g. e)
-
-  pub ended : min (length l) 16 ≤ i → i ≡ lead l
-  ended h = told (λ f g. absurd (omega arith))
+pub lead_prefix : (l : List ℕ) → prefix_len preamble (take 16 l) ≡ lead l
+unfolding lead
+lead_prefix l = up_to _ l

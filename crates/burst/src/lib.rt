@@ -1,13 +1,14 @@
 // Three received bursts, stripped of their preamble and voted to one text.
 #![tactic(auto)]
 
-ghost use Rattle.std.specs.Prelude.{◌≡◌, ℕ, ◌≤◌, ◌<◌, min, max, length};
+ghost use Rattle.std.specs.Prelude.{◌≡◌, ℕ, ◌≤◌, ◌<◌, length, not, eqb, position};
+ghost use Rattle.std.specs.List.{zip};
 ghost use Rattle.laws.specs.Space.{pasted};
 ghost use Rattle.burst.specs.Strip.{preamble};
 ghost use Rattle.burst.specs.Bits.{voted_byte};
 ghost use Rattle.burst.specs.Vote.{middle, voted_length, too_long};
 ghost use Rattle.burst.specs.Promise.{LeadingPromise, StripPromise, VotePromise};
-ghost use Rattle.burst.specs.Steps.{first_difference, voted_bytes, stretch, Agrees, Decides};
+ghost use Rattle.burst.specs.Steps.{voted_bytes, Agrees, Decides};
 
 use refusals::Refusal;
 
@@ -28,31 +29,15 @@ fn is_preamble(x: u8) -> bool
     u8::count_ones(x ^ 0xAB) <= 1
 }
 
-fn lesser(x: usize, y: usize) -> usize
-    ensures { result ≡ min x y }
-{
-    if x < y { x } else { y }
-}
-
-fn greater(x: usize, y: usize) -> usize
-    ensures { result ≡ max x y }
-{
-    if x < y { y } else { x }
-}
-
 // How many bytes the stripping drops: the leading preamble bytes, up to 16. One look at each, and at the byte that ends the run.
 pub fn leading(burst: &[u8]) -> usize
     ensures { LeadingPromise burst.now result }
 {
-    let most = lesser(burst.len(), 16);
-    let mut i: usize = 0;
-    while i < most {
-        if !is_preamble(burst[i]) {
-            return i;
-        }
-        i += 1;
-    }
-    i
+    burst
+        .iter()
+        .take(16)
+        .take_while(|x| is_preamble(**x))
+        .count()
 }
 
 // The part of the burst that follows the bytes dropped; nothing is copied.
@@ -66,21 +51,13 @@ pub fn strip(burst: &[u8]) -> &[u8]
 fn median(x: usize, y: usize, z: usize) -> usize
     ensures { result ≡ middle x y z }
 {
-    let low = lesser(x, y);
-    let high = greater(x, y);
-    greater(low, lesser(high, z))
+    x.min(y).max(x.max(y).min(z))
 }
 
 fn too_long(a: &[u8], b: &[u8], c: &[u8]) -> bool
     ensures { result ≡ too_long a.now b.now c.now }
 {
-    if 268 < a.len() {
-        return true;
-    }
-    if 268 < b.len() {
-        return true;
-    }
-    268 < c.len()
+    268 < a.len() || 268 < b.len() || 268 < c.len()
 }
 
 // Each bit of the answer is what at least two of the three have: some pair of them has it. All eight bits are settled at once.
@@ -90,42 +67,20 @@ fn majority(x: u8, y: u8, z: u8) -> u8
     (x & y) | (x & z) | (y & z)
 }
 
-// The lowest position from `from` on, below n, at which the two differ, or n.
-fn first_difference(p: &[u8], q: &[u8], from: usize, n: usize) -> usize
-    requires { (from ≤ n) × (n ≤ length p.now) × (n ≤ length q.now) }
-    ensures { result ≡ first_difference p.now q.now from n }
+// The lowest position at which the two differ, as far as both reach.
+fn first_difference(p: &[u8], q: &[u8]) -> Option<usize>
+    ensures { result ≡ position (λ x. not (eqb x.0 x.1)) (zip p.now q.now) }
 {
-    let mut i: usize = from;
-    while i < n {
-        if p[i] != q[i] {
-            return i;
-        }
-        i += 1;
-    }
-    n
+    p.iter().zip(q).position(|(x, y)| x != y)
 }
 
-// Writes the first n bytes, voted.
-fn write_voted(a: &[u8], b: &[u8], c: &[u8], n: usize, out: &mut [u8])
-    requires { (n ≤ length a.now) × (n ≤ length b.now) × (n ≤ length c.now) × (n ≤ length out.old) }
-    ensures { out.new ≡ pasted out.old 0 (voted_bytes a.now b.now c.now n) }
+// Writes the voted bytes, as far as a reaches.
+fn write_voted(a: &[u8], b: &[u8], c: &[u8], out: &mut [u8])
+    requires { (length a.now ≤ length b.now) × (length a.now ≤ length c.now) × (length a.now ≤ length out.old) }
+    ensures { out.new ≡ pasted out.old 0 (voted_bytes a.now b.now c.now (length a.now)) }
 {
-    let mut i: usize = 0;
-    while i < n {
+    for i in 0..a.len() {
         out[i] = majority(a[i], b[i], c[i]);
-        i += 1;
-    }
-}
-
-// Copies the bytes of p from `from` up to `end` to the same places.
-fn write_rest(p: &[u8], from: usize, end: usize, out: &mut [u8])
-    requires { (from ≤ end) × (end ≤ length p.now) × (end ≤ length out.old) }
-    ensures { out.new ≡ pasted out.old from (stretch p.now from end) }
-{
-    let mut at: usize = from;
-    while at < end {
-        out[at] = p[at];
-        at += 1;
     }
 }
 
@@ -137,12 +92,11 @@ fn agree(s: &[u8], p: &[u8], q: &[u8], n: usize, out: &mut [u8]) -> Result<usize
     ensures { Agrees s.now p.now q.now n out.old result out.new }
 {
     let m = s.len();
-    let k = first_difference(p, q, m, n);
-    if k < n {
-        return Err(Refusal::ClashAt(k));
+    if let Some(k) = first_difference(&p[m..n], &q[m..n]) {
+        return Err(Refusal::ClashAt(m + k));
     }
-    write_voted(s, p, q, m, out);
-    write_rest(p, m, n, out);
+    write_voted(s, p, q, out);
+    out[m..n].copy_from_slice(&p[m..n]);
     Ok(n)
 }
 

@@ -7,6 +7,7 @@ use native.Mathlib.Numerals.{add-one}
 use native.Mathlib.Omega.{arith}
 use lib.ListN.{length, take, drop, set, length-append, length-drop, take-append-drop, length-set}
 use lib.Seq.{length-take-le, take_at, drop_at, drop-drop, set_split, take-set-le, drop-set-lt, drop-cons, get_or-set_same}
+use borrow.Rule.Slice.PartMut.{put_mid}
 use Rattle.laws.specs.Space.{pasted}
 
 pub pasted_nil : (d : List ℕ) (at : ℕ) → pasted d at [] ≡ d
@@ -80,3 +81,9 @@ done d₀ whole d at t = sym (pasted_nil d at) ∙ t.same
 pub glue : (d d1 d2 : List ℕ) (at at1 : ℕ) (x y : List ℕ) → at + length x + length y ≤ length d → d1 ≡ pasted d at x → at1 ≡ at + length x
     → d2 ≡ pasted d1 at1 y → d2 ≡ pasted d at (x ++ y)
 glue d d1 d2 at at1 x y h p i q = q ∙ (λ e. pasted (p e) (i e) y) ∙ pasted_two d at x y h
+
+-- ---- a part of the space, written over as a whole: as by `copy_from_slice`
+
+pub pasted_part : (d : List ℕ) (at k : ℕ) (s t : List ℕ) → s ≡ t → length t ≡ k → put_mid at k d s ≡ pasted d at t
+unfolding pasted
+pasted_part d at k s t e l = rw (e, l, ← drop-drop k at d)

@@ -1,19 +1,32 @@
 -- A difference below n is 3; else the voted front and the copied rest are pasted one after the other, and make the text.
+use mathlib.Core.Path.{refl}
 use native.Mathlib.Omega.{arith}
-use Rattle.burst.proofs.Agreed.{agree_3, agree_text}
+use lib.ListN.{length}
+use Prim.Native.Nat.{◌-◌}
+use Rattle.laws.proofs.Parts.{length_part}
+use Rattle.laws.proofs.Pasted.{pasted_part}
+use Rattle.burst.proofs.Agreed.{found, not_found, agree_3, agree_text}
+use Rattle.burst.specs.Steps.{stretch}
 use Rattle.burst.proofs.agree.Goals as goal
 
-pub returns-then-k-n : goal.returns-then-k-n
-returns-then-k-n c =
+pub overflow_add-result : goal.overflow_add-result
+overflow_add-result c =
     let a = c.args in
-    let k = c.first_difference-k in
-    agree_3 a.s.now a.p.now a.q.now a.n a.out.now k.result k.ensures (omega arith)
+    omega (arith, (found a.p.now a.q.now (length a.s.now) a.n c.requires.0 c.requires.1 c.requires.2 c.in-Some.k c.in-Some.ensures).0)
+
+pub returns-in-Some : goal.returns-in-Some
+returns-in-Some c =
+    let a = c.args in
+    let f = found a.p.now a.q.now (length a.s.now) a.n c.requires.0 c.requires.1 c.requires.2 c.in-Some.k c.in-Some.ensures in
+    agree_3 a.s.now a.p.now a.q.now a.n a.out.now _ f.1 f.0
 
 pub returns : goal.returns
 returns c =
     let a = c.args in
-    let k = c.first_difference-k in
     let v = c.write_voted in
-    let r = c.write_rest in
-    agree_text a.s.now a.p.now a.q.now a.n a.out.now k.result k.ensures
-    v.new.out r.new.out (omega arith) c.requires.0 c.requires.1 c.requires.3 v.ensures r.ensures
+    let r = c.copy_from_slice in
+    let m = length a.s.now in
+    let rest = stretch a.p.now m a.n in
+    agree_text a.s.now a.p.now a.q.now a.n a.out.now _ refl v.new.out _
+    (not_found a.p.now a.q.now m a.n c.requires.0 c.requires.1 c.requires.2 c.in_default.ensures) c.requires.0 c.requires.1 c.requires.3 v.ensures
+    (pasted_part v.new.out m (a.n - m) r.new.self rest r.ensures.after (length_part a.p.now m (a.n - m) (omega arith)))

@@ -3,7 +3,7 @@ use mathlib.Core.Path.{sym, ◌∙◌}
 use mathlib.Core.List.{List}
 use Prim.Native.Nat.{ℕ}
 use native.Mathlib.Omega.{arith}
-use lib.ListN.{get_or}
+use lib.ListN.{length, get_or}
 use Rattle.laws.specs.Space.{pasted}
 use Rattle.laws.proofs.Tables.{length_table, get_or_table}
 use Rattle.laws.proofs.Pasted.{todo}
@@ -18,33 +18,31 @@ voted a b c i = voted_byte (get_or a i 0) (get_or b i 0) (get_or c i 0)
 pub loop-i-init : goal.loop-i-init
 loop-i-init c =
     let a = c.args in
-    let s = voted_bytes a.a.now a.b.now a.c.now a.n in
-    (omega arith, todo a.out.now 0 s (omega (arith, length_table a.n (voted a.a.now a.b.now a.c.now))))
+    let n = length a.a.now in
+    todo a.out.now 0 (voted_bytes a.a.now a.b.now a.c.now n) (omega (arith, length_table n (voted a.a.now a.b.now a.c.now)))
 
 pub bounds-out-i : goal.bounds-out-i
-bounds-out-i c =
-    let t = c.loop-i.invariant.1 in
-    omega (arith, t.len)
+bounds-out-i c = omega (arith, c.loop-i.invariant.len)
 
 pub loop-i-preserved : goal.loop-i-preserved
 loop-i-preserved c =
     let a = c.args in
     let l = c.loop-i in
+    let n = length a.a.now in
     let f = voted a.a.now a.b.now a.c.now in
-    let s = voted_bytes a.a.now a.b.now a.c.now a.n in (
-      omega arith,
-      write_next a.out.now (pasted a.out.now 0 s) l.out l.i s l.i l.invariant.1 c.majority.result
-          (omega (arith, length_table a.n f))
-          (c.majority.ensures ∙ sym (get_or_table a.n l.i f 0 (omega arith))),
-    )
+    let s = voted_bytes a.a.now a.b.now a.c.now n in
+    write_next a.out.now (pasted a.out.now 0 s) l.out l.i s l.i l.invariant c.majority.result
+    (omega (arith, length_table n f))
+    (c.majority.ensures ∙ sym (get_or_table n l.i f 0 (omega arith)))
 
 pub shape_of-out : goal.shape_of-out
-shape_of-out c = c.loop-i.invariant.1.len
+shape_of-out c = c.loop-i.invariant.len
 
 pub returns : goal.returns
 returns c =
     let a = c.args in
     let l = c.loop-i in
-    let s = voted_bytes a.a.now a.b.now a.c.now a.n in
-    write_end a.out.now (pasted a.out.now 0 s) l.out l.i s l.i l.invariant.1
-    (omega (arith, length_table a.n (voted a.a.now a.b.now a.c.now)))
+    let n = length a.a.now in
+    let s = voted_bytes a.a.now a.b.now a.c.now n in
+    write_end a.out.now (pasted a.out.now 0 s) l.out l.i s l.i l.invariant
+    (omega (arith, length_table n (voted a.a.now a.b.now a.c.now)))
