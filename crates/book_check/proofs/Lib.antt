@@ -1,4 +1,4 @@
 pub mod Told
+pub mod Lists
 pub mod Rises
-pub mod Zeros
 pub mod NoChoice

@@ -8,74 +8,52 @@ ghost use Rattle.book_rules.specs.Rules.{rec_state, rec_at, below, counts_right,
 ghost use Rattle.book_rules.specs.Steps.{rising_rank};
 ghost use Rattle.book_check.specs.Promise.{IsGoodPromise};
 
-// The first word of record i.
-fn first_at(book: &[u32], i: usize) -> u32
-    requires { (length book.now ≡ 8293) × (i < 4096) }
-    ensures { result ≡ (rec_at book.now i).first }
-{
-    book[101 + 2 * i]
-}
-
-// The second word of record i.
-fn second_at(book: &[u32], i: usize) -> u32
-    requires { (length book.now ≡ 8293) × (i < 4096) }
-    ensures { result ≡ (rec_at book.now i).second }
-{
-    book[102 + 2 * i]
-}
-
 // The state of record i.
-fn state_at(book: &[u32], i: usize) -> usize
-    requires { (length book.now ≡ 8293) × (i < 4096) }
+fn state_at(book: &[u32; 8293], i: usize) -> usize
+    requires { i < 4096 }
     ensures { result ≡ rec_state (rec_at book.now i) }
 {
-    let s = first_at(book, i) / 10000;
-    s as usize
+    (book[101 + 2 * i] / 10000) as usize
 }
 
 // Whether the first n records are in range and rise. One pass, each word looked at once.
-fn records_rise(book: &[u32], n: usize) -> bool
-    requires { (length book.now ≡ 8293) × (n ≤ 4096) }
+fn records_rise(book: &[u32; 8293], n: usize) -> bool
+    requires { n ≤ 4096 }
     ensures { result ≡ (records_right form book.now n && rising_rank form book.now n) }
 {
-    let mut last: u64 = 0;
-    let mut i: usize = 0;
-    while i < n {
-        let next = book_records::rank_or_none(first_at(book, i), second_at(book, i));
+    let (records, _) = book[101..101 + 2 * n].as_chunks::<2>();
+    let mut last = 0;
+    for [first, second] in records {
+        let Some(next) = book_records::rank_or_none(*first, *second) else {
+            return false;
+        };
         if next <= last {
             return false;
         }
         last = next;
-        i += 1;
     }
     true
 }
 
 // Whether c is 0, or the record before index c has a state below s.
-fn ends_below(book: &[u32], c: usize, s: usize) -> bool
-    requires { (length book.now ≡ 8293) × (c ≤ 4096) }
+fn ends_below(book: &[u32; 8293], c: usize, s: usize) -> bool
+    requires { c ≤ 4096 }
     ensures { result ≡ (eqb c 0 || ltb (rec_state (rec_at book.now (c - 1))) s) }
 {
-    if c == 0 {
-        return true;
-    }
-    state_at(book, c - 1) < s
+    c == 0 || state_at(book, c - 1) < s
 }
 
 // Whether c is n, or the record at index c has a state of at least s.
-fn starts_above(book: &[u32], n: usize, c: usize, s: usize) -> bool
-    requires { (length book.now ≡ 8293) × (c ≤ n) × (n ≤ 4096) }
+fn starts_above(book: &[u32; 8293], n: usize, c: usize, s: usize) -> bool
+    requires { (c ≤ n) × (n ≤ 4096) }
     ensures { result ≡ (eqb c n || leb s (rec_state (rec_at book.now c))) }
 {
-    if c == n {
-        return true;
-    }
-    s <= state_at(book, c)
+    c == n || s <= state_at(book, c)
 }
 
 // Whether word s is its count, where the first n records are in range and rise: one look on each side of the record it names.
-fn count_is(book: &[u32], n: usize, s: usize) -> bool
-    requires { (length book.now ≡ 8293) × (n ≤ 4096) × (s < 101) × (records_right form book.now n ≡ true) × (rising_rank form book.now n ≡ true) }
+fn count_is(book: &[u32; 8293], n: usize, s: usize) -> bool
+    requires { (n ≤ 4096) × (s < 101) × (records_right form book.now n ≡ true) × (rising_rank form book.now n ≡ true) }
     ensures { result ≡ eqb (get_or book.now s 0) (below (table n (rec_at book.now)) s) }
 {
     let c = book[s] as usize;
@@ -89,34 +67,19 @@ fn count_is(book: &[u32], n: usize, s: usize) -> bool
 }
 
 // Whether each of the first 101 words is its count, where the first n records are in range and rise.
-fn counts_right(book: &[u32], n: usize) -> bool
-    requires { (length book.now ≡ 8293) × (n ≤ 4096) × (records_right form book.now n ≡ true) × (rising_rank form book.now n ≡ true) }
+fn counts_right(book: &[u32; 8293], n: usize) -> bool
+    requires { (n ≤ 4096) × (records_right form book.now n ≡ true) × (rising_rank form book.now n ≡ true) }
     ensures { result ≡ counts_right book.now n }
 {
-    let mut s: usize = 0;
-    while s < 101 {
-        if !count_is(book, n, s) {
-            return false;
-        }
-        s += 1;
-    }
-    true
+    (0..101).all(|s| count_is(book, n, s))
 }
 
 // Whether the words past the first n records are zero. One pass with no branch in it: all of them or-ed together.
-fn unused_zero(book: &[u32], n: usize) -> bool
-    requires { (length book.now ≡ 8293) × (n ≤ 4096) }
+fn unused_zero(book: &[u32; 8293], n: usize) -> bool
+    requires { n ≤ 4096 }
     ensures { result ≡ unused_zero book.now n }
 {
-    let from = 101 + 2 * n;
-    let end = 8192 - 2 * n;
-    let mut bits: u32 = 0;
-    let mut j: usize = 0;
-    while j < end {
-        bits |= book[from + j];
-        j += 1;
-    }
-    bits == 0
+    book[101 + 2 * n..].iter().fold(0, |bits, word| bits | word) == 0
 }
 
 // Whether the book has its length and keeps the rules. One pass over the records, one look on each side of each count,
@@ -124,9 +87,9 @@ fn unused_zero(book: &[u32], n: usize) -> bool
 pub fn is_good(book: &[u32]) -> bool
     ensures { IsGoodPromise book.now result }
 {
-    if book.len() != 8293 {
+    let Some(book) = book.as_array() else {
         return false;
-    }
+    };
     let n = book[100] as usize;
     if 4096 < n {
         return false;

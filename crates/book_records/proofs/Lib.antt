@@ -1,2 +1,4 @@
+pub mod Within
+pub mod Chunks
 pub mod Second
 pub mod NoChoice

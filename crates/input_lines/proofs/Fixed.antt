@@ -4,23 +4,30 @@ use mathlib.Core.Path.{◌≡◌, refl, sym, ap, ◌∙◌}
 use mathlib.Core.List.{List, [], ◌∷◌}
 use mathlib.Core.Bool.{Bool, true, false, ◌&&◌, not}
 use native.Mathlib.Omega.{arith}
-use lib.ListN.{length, get_or, take, drop, length-drop, take-append-drop}
-use lib.Seq.{length-take-le, get_or-drop}
+use lib.ListN.{length, get_or, take, drop, drop_of_length-le, length-drop, take-append-drop}
+use lib.Seq.{drop-cons, drop-drop, length-take-le, get_or-drop}
 use lib.Dec.{ltb, leb, eqb}
-use borrow.Author.Tests.{eq-eqb, ne_eqb, lt-ltb, le-ltb, le-leb, ltb-true, eqb-true, not-true}
+use borrow.Author.Tests.{eq-eqb, ne_eqb, lt-ltb, le-ltb, le-leb, ltb-true, ltb-false, eqb-true, not-true}
+use Rattle.std.specs.Prelude.{Option, Some, None, slice_range}
+use Rattle.std.specs.List.{IsSplitAt, starts_with}
+use Rattle.std.specs.Option.{option_map, ok_or}
 use Rattle.laws.specs.Order.{Said, granted, refused, choose}
+use Rattle.refusals.specs.Refusals.{said}
+use Rattle.refusals.specs.declared.Refusal.TheVariants.{Malformed}
 use Rattle.laws.specs.Lists.{every, same}
 use Rattle.laws.specs.Numbers.{digit}
 use Rattle.laws.proofs.Clash.{clash}
 use Rattle.laws.proofs.Tests.{and_l, and_r, within_lo}
 use Rattle.laws.proofs.Every.{every_append, same_eq}
+use Rattle.laws.proofs.Prefixes.{starts_same}
 use Rattle.laws.specs.Text.{ascii}
 use Rattle.codec.specs.Kind.{Kind, digits, ◌⊗◌, tag}
 use Rattle.input_lines.specs.Lines.{whole, is_line}
 use Rattle.input_lines.specs.Forms.{space, now_kind, client_kind, sub_kind}
 use Rattle.input_lines.specs.Next.{next_of}
-use Rattle.input_lines.specs.Steps.{to_end, ends_after, form_says}
-use Rattle.input_lines.proofs.Ends.{end_le}
+use Rattle.input_lines.specs.Answers.{with_index, said_as}
+use Rattle.input_lines.specs.Steps.{to_end, ends_after, form_of, FixedLine, no_end, ends}
+use Rattle.input_lines.proofs.Ends.{end_le, rest_is}
 use Rattle.input_lines.proofs.Next.{next_of_is, took_says, NextLine, taken, malformed, next_line}
 use Rattle.input_lines.proofs.Pieces.{clean}
 
@@ -124,8 +131,8 @@ module _ {A : Type 0} (k : Kind A) (g : Clean k) (short : k.width ≤ 300) (t : 
           simp (lt-ltb (at + w) (length t) f.0, eq-eqb (get_or t (at + w) 0) 10 f.1) in
           (let z : ◌≡◌ {A = Bool} true false = sym b ∙ h in clash cc)
 
-  pub there : ends_after t at w ≡ true → form_says (whole k) (take w s) (at + w + 1) ≡ next_of (whole k) t at
-  unfolding ends_after form_says
+  pub there : ends_after t at w ≡ true → choose ((whole k).allowed (take w s)) (granted (k.value (take w s), at + w + 1)) (refused 23) ≡ next_of (whole k) t at
+  unfolding ends_after
   there h = go (k.allowed (take w s)) refl (next_line (whole k) t at)
     where
       l : at + w < length t
@@ -144,18 +151,67 @@ module _ {A : Type 0} (k : Kind A) (g : Clean k) (short : k.width ≤ 300) (t : 
       go false a (malformed p) = simp (n, eq-eqb w w refl, a) (sym p)
       go false a (taken v j p) = (let z : ◌≡◌ {A = Bool} true false = sym (took_form v j p).2 ∙ a in clash cc)
 
--- the test, as the code makes it
-pub ends_not : (t : List ℕ) (at w : ℕ) → length t ≤ at + w → false ≡ ends_after t at w
-unfolding ends_after
-ends_not t at w h = simp (le-ltb (at + w) (length t) h)
+  -- what is read of a line by its form is what the next line says
+  read_form : {T : Type 0} (f : T → A) (o : Option T) → option_map f o ≡ form_of (whole k) (take w s)
+      → said_as (with_index f) (ok_or (option_map (λ v. (v, at + w + 1)) o) Malformed)
+      ≡ choose ((whole k).allowed (take w s)) (granted (k.value (take w s), at + w + 1)) (refused 23)
+  unfolding form_of
+  read_form {T} f o e = go o ((whole k).allowed (take w s)) e
+    where
+      go : (o : Option T) (b : Bool) → option_map f o ≡ choose b (Some (k.value (take w s))) None
+          → said_as (with_index f) (ok_or (option_map (λ v. (v, at + w + 1)) o) Malformed) ≡ choose b (granted (k.value (take w s), at + w + 1)) (refused 23)
+      go (Some v) true e = let z : f v ≡ k.value (take w s) = cc in ap (λ (a : A). granted (a, at + w + 1)) z
+      go (Some v) false e = clash cc
+      go None true e = clash cc
+      go None false e = refl
 
-pub ends_by : (t : List ℕ) (at w : ℕ) → at + w < length t → eqb (get_or t (at + w) 0) 10 ≡ ends_after t at w
-unfolding ends_after
-ends_by t at w h = simp (lt-ltb (at + w) (length t) h)
+  pub read_says : {T : Type 0} (f : T → A) (of : List ℕ → Option T → Type 0) → ((o : Option T) → of (take w s) o → option_map f o ≡ form_of (whole k) (take w s))
+      → (r : Option (T × ℕ)) → FixedLine of t at w r → said_as (with_index f) (ok_or r Malformed) ≡ next_of (whole k) t at
+  read_says {T} f of h r (no_end n e) = ap (λ (s : Option (T × ℕ)). said_as (with_index f) (ok_or s Malformed)) e ∙ not_there n
+  read_says {T} f of h r (ends n o p e) = ap (λ (s : Option (T × ℕ)). said_as (with_index f) (ok_or s Malformed)) e ∙ read_form f o (h o p) ∙ there n
 
-pub ends_in : (t : List ℕ) (at w : ℕ) → ends_after t at w ≡ true → at + w < length t
-unfolding ends_after
-ends_in t at w h = ltb-true (at + w) (length t) (and_l (ltb (at + w) (length t)) (eqb (get_or t (at + w) 0) 10) h)
+  -- where the value is said as it is
+  pub read_plain : (of : List ℕ → Option A → Type 0) → ((o : Option A) → of (take w s) o → o ≡ form_of (whole k) (take w s))
+      → (r : Option (A × ℕ)) → FixedLine of t at w r → said (ok_or r Malformed) ≡ next_of (whole k) t at
+  read_plain of h r x = plain r ∙ read_says (λ a. a) of (λ o p. own o ∙ h o p) r x
+    where
+      own : (o : Option A) → option_map (λ a. a) o ≡ o
+      own (Some a) = refl
+      own None = refl
+
+      plain : (r : Option (A × ℕ)) → said (ok_or r Malformed) ≡ said_as (with_index (λ a. a)) (ok_or r Malformed)
+      plain (Some (a, j)) = refl
+      plain None = refl
+
+-- ---- the test, as the code makes it
+
+module _ (t : List ℕ) (at n : ℕ) where
+  pub ends_not : length t ≤ at + n → ends_after t at n ≡ false
+  unfolding ends_after
+  ends_not h = simp (le-ltb (at + n) (length t) h)
+
+  -- what is left from index at on, cut behind n bytes
+  module _ (left front rest : List ℕ) (e : left ≡ slice_range t at (length t)) (p : IsSplitAt left n front rest) where
+    pub front_is : front ≡ take n (drop at t)
+    front_is = p.1 ∙ ap (take n) (e ∙ rest_is t at)
+
+    pub ends_by : starts_with eqb rest (10 ∷ []) ≡ ends_after t at n
+    unfolding ends_after
+    ends_by =
+        starts_same rest (10 ∷ [])
+        ∙ ap (λ (l : List ℕ). same (take 1 l) (10 ∷ [])) (p.2 ∙ ap (drop n) (e ∙ rest_is t at) ∙ drop-drop n at t)
+        ∙ go (ltb (at + n) (length t)) refl
+      where
+        last : Bool
+        last = eqb (get_or t (at + n) 0) 10
+
+        one : (b : Bool) → b && true ≡ b
+        one true = refl
+        one false = refl
+
+        go : (b : Bool) → ltb (at + n) (length t) ≡ b → same (take 1 (drop (at + n) t)) (10 ∷ []) ≡ b && last
+        go true e = ap (λ (l : List ℕ). same (take 1 l) (10 ∷ [])) (drop-cons t (at + n) 0 (ltb-true (at + n) (length t) e)) ∙ one last
+        go false e = ap (λ (l : List ℕ). same (take 1 l) (10 ∷ [])) (drop_of_length-le t (ltb-false (at + n) (length t) e))
 
 -- ---- the three kinds
 

@@ -7,21 +7,22 @@ use mathlib.Core.Bool.{true, false}
 use native.Mathlib.Omega.{arith}
 use lib.ListN.{length, take, drop, length-drop}
 use lib.Seq.{take_all, length-take-le}
-use lib.Dec.{leb}
+use lib.Dec.{leb, eqb}
+use Rattle.std.specs.Prelude.{None}
+use Rattle.std.specs.List.{starts_with}
 use Rattle.laws.specs.Order.{Said, granted, refused, refused_at, next}
 use Rattle.laws.specs.Lists.{same}
 use Rattle.laws.proofs.Clash.{clash}
 use Rattle.laws.proofs.Tests.{and_r, le_or_lt}
-use Rattle.laws.proofs.Every.{differ, same_eq}
-use Rattle.laws.proofs.Parts.{part_head, part_tail}
+use Rattle.laws.proofs.Every.{same_eq}
+use Rattle.laws.proofs.Prefixes.{starts_same}
+use Rattle.laws.proofs.Parts.{part_tail}
 use Rattle.input_lines.specs.Lines.{is_line}
 use Rattle.input_lines.specs.Forms.{header_word, header_line}
 use Rattle.input_lines.specs.Next.{next_of, stands_at, header_at}
 use Rattle.input_lines.specs.Steps.{to_end, line_of}
-use Rattle.input_lines.specs.declared.Line.TheVariants.{Broken}
 use Rattle.input_lines.proofs.Ends.{Found, end_le}
 use Rattle.input_lines.proofs.Next.{next_as, broken, Took, took_says}
-use Rattle.input_lines.proofs.Forms.{form_no, form_yes}
 
 -- ---- from what the next line says
 
@@ -30,32 +31,23 @@ module _ (t : List ℕ) (at : ℕ) where
   unfolding header_at
   no_header e = simp e
 
-  pub header_broken : line_of t at ≡ Broken → refused 23 ≡ header_at t at
+  pub header_broken : line_of t at ≡ None → refused 23 ≡ header_at t at
   header_broken e = no_header (sym (broken header_line t at e))
 
   module _ (e : ℕ) (w : Found t at e) where
     abbrev line : List ℕ
     line = take (e - at) (drop at t)
 
-    pub header_short : e - at < 7 → refused 23 ≡ header_at t at
+    pub header_other : starts_with eqb line header_word ≡ false → refused 23 ≡ header_at t at
     unfolding header_line
-    header_short h =
-        let n : length line ≡ e - at = length-take-le (e - at) (drop at t) (omega (arith, w.inside, length-drop at t)) in
-        let k : take 7 line ≡ line = take_all 7 line (omega arith) in
-        let no = ap (λ (b : List ℕ). same b header_word) k ∙ differ line header_word (λ q. omega arith) in
-        no_header (sym (form_no header_line line (e + 1) no ∙ next_as header_line t at e w))
+    header_other h = no_header (sym (next_as header_line t at e w) ∙ simp (sym (starts_same line header_word) ∙ h))
 
-    pub header_other : 7 ≤ e - at → same (take 7 (drop at t)) header_word ≡ false → refused 23 ≡ header_at t at
-    unfolding header_line
-    header_other h k =
-        let no = ap (λ (b : List ℕ). same b header_word) (part_head t at (e - at) 7 h) ∙ k in
-        no_header (sym (form_no header_line line (e + 1) no ∙ next_as header_line t at e w))
-
-    pub header_good : 7 ≤ e - at → same (take 7 (drop at t)) header_word ≡ true → ◌≡◌ {A = Said (ℕ × (ℕ × ℕ))} (granted (at + 7, (e, e + 1))) (header_at t at)
+    pub header_good : starts_with eqb line header_word ≡ true → ◌≡◌ {A = Said (ℕ × (ℕ × ℕ))} (granted (at + 7, (e, e + 1))) (header_at t at)
     unfolding header_line header_at
-    header_good h k =
+    header_good h =
         let z : e + 1 - 1 ≡ e = omega arith in
-        let p = form_yes header_line line (e + 1) (ap (λ (b : List ℕ). same b header_word) (part_head t at (e - at) 7 h) ∙ k) ∙ next_as header_line t at e w in
+        let a = sym (starts_same line header_word) ∙ h in
+        let p : ◌≡◌ {A = Said (List ℕ × ℕ)} (granted (drop 7 line, e + 1)) (next_of header_line t at) = sym (simp a) ∙ next_as header_line t at e w in
         sym (ap (λ (s : Said (List ℕ × ℕ)). next s (λ l. granted (stands_at at l))) (sym p) ∙ ap (λ (m : ℕ). granted (at + 7, (m, e + 1))) z)
 
 -- ---- what a header that was found says

@@ -8,12 +8,12 @@ use lib.ListN.{length, take, drop, length-drop}
 use lib.Seq.{length-take-le}
 use lib.Dec.{ltb, leb}
 use borrow.Author.Tests.{lt-ltb, le-leb, ltb-true, ltb-false}
+use Rattle.std.specs.Prelude.{Some, None}
 use Rattle.laws.specs.Order.{Said, granted, refused, choose}
 use Rattle.laws.proofs.Clash.{clash}
 use Rattle.input_lines.specs.Lines.{pieces, LineForm, is_line}
 use Rattle.input_lines.specs.Next.{first_of, next_of}
-use Rattle.input_lines.specs.Steps.{to_end, line_of, form_says}
-use Rattle.input_lines.specs.declared.Line.TheVariants.{Ends, Broken}
+use Rattle.input_lines.specs.Steps.{to_end, line_of}
 use Rattle.input_lines.proofs.Ends.{end_le, Found}
 use Rattle.input_lines.proofs.Pieces.{pieces_some, pieces_line, pieces_open}
 
@@ -54,8 +54,9 @@ next_of_is f t at = first_by f at (drop at t)
 -- ---- the line that the code finds, and none
 
 -- what the line says is what the next line says
-pub next_as : {A : Type 0} (f : LineForm A) (t : List ℕ) (at e : ℕ) → Found t at e → form_says f (take (e - at) (drop at t)) (e + 1) ≡ next_of f t at
-unfolding is_line form_says
+pub next_as : {A : Type 0} (f : LineForm A) (t : List ℕ) (at e : ℕ) → Found t at e
+    → choose (f.allowed (take (e - at) (drop at t))) (granted (f.value (take (e - at) (drop at t)), e + 1)) (refused 23) ≡ next_of f t at
+unfolding is_line
 next_as f t at e w =
     let n : length (take (e - at) (drop at t)) ≡ e - at = length-take-le (e - at) (drop at t) (omega (arith, w.inside, length-drop at t)) in
     let a : ltb (e - at) (length (drop at t)) ≡ true = lt-ltb (e - at) (length (drop at t)) (omega (arith, w.inside, w.low, length-drop at t)) in
@@ -63,7 +64,7 @@ next_as f t at e w =
     let j : at + (e - at) + 1 ≡ e + 1 = omega (arith, w.low) in
     sym (next_of_is f t at ∙ rw w.end (simp (a, b, j)))
 
-pub broken : {A : Type 0} (f : LineForm A) (t : List ℕ) (at : ℕ) → line_of t at ≡ Broken → refused 23 ≡ next_of f t at
+pub broken : {A : Type 0} (f : LineForm A) (t : List ℕ) (at : ℕ) → line_of t at ≡ None → refused 23 ≡ next_of f t at
 unfolding line_of is_line
 broken {A} f t at p = go (ltb n (length s)) refl (leb n 300) refl p ∙ sym (next_of_is f t at)
   where
@@ -73,7 +74,7 @@ broken {A} f t at p = go (ltb n (length s)) refl (leb n 300) refl p ∙ sym (nex
     n : ℕ
     n = to_end s
 
-    go : (a : Bool) → ltb n (length s) ≡ a → (b : Bool) → leb n 300 ≡ b → choose (a && b) (Ends (at + n)) Broken ≡ Broken
+    go : (a : Bool) → ltb n (length s) ≡ a → (b : Bool) → leb n 300 ≡ b → choose (a && b) (Some (at + n)) None ≡ None
         → ◌≡◌ {A = Said (A × ℕ)} (refused 23)
         (choose (ltb n (length s) && (leb (length (take n s)) 300 && f.allowed (take n s))) (granted (f.value (take n s), at + n + 1)) (refused 23))
     go true p true q r = clash cc

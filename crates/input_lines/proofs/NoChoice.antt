@@ -2,63 +2,41 @@
 use Prim.Native.Nat.{ℕ}
 use mathlib.Core.Path.{◌≡◌, refl, sym, ap, ◌∙◌}
 use mathlib.Core.List.{List}
-use Rattle.laws.specs.Order.{Said, granted, refused, refused_at}
-use Rattle.input_lines.specs.Answers.{said_now, said_client, said_header, said_sub}
+use Rattle.std.specs.Prelude.{Result, Ok, Err}
+use Rattle.refusals.specs.declared.Refusal.{Refusal}
+use Rattle.refusals.proofs.Apart.{says_one}
+use Rattle.refusals.proofs.Said.{never_granted}
+use Rattle.refusals.proofs.NoChoice.{said_one}
+use Rattle.input_lines.specs.Answers.{now_parts, sub_parts, header_parts, with_index, said_as}
 use Rattle.input_lines.specs.Promise.{NowLinePromise, ClientLinePromise, HeaderLinePromise, SubLinePromise}
 use Rattle.input_lines.specs.declared.NowLine.{NowLine}
-use Rattle.input_lines.specs.declared.NowLine.TheVariants.{At, NoNow}
-use Rattle.input_lines.specs.declared.ClientLine.{ClientLine}
-use Rattle.input_lines.specs.declared.ClientLine.TheVariants.{Client, NoClient}
 use Rattle.input_lines.specs.declared.HeaderLine.{HeaderLine}
-use Rattle.input_lines.specs.declared.HeaderLine.TheVariants.{Header, NoHeader}
 use Rattle.input_lines.specs.declared.SubLine.{SubLine}
-use Rattle.input_lines.specs.declared.SubLine.TheVariants.{Sub, NoSub}
 
--- an answer, from what it says: so two answers that say the same are equal
-abbrev now_of : Said ((ℕ × (ℕ × (ℕ × ℕ))) × ℕ) → NowLine
-now_of (granted ((y, (d, (h, m))), j)) = At y d h m j
-now_of (refused n) = NoNow
-now_of (refused_at n i) = NoNow
+-- two results that say the same by f are one, where f is undone by g
+said_as_one : {A B : Type 0} (f : A → B) (g : B → A) → ((a : A) → g (f a) ≡ a) → (r q : Result A Refusal) → said_as f r ≡ said_as f q → r ≡ q
+said_as_one f g back (Ok a) (Ok b) e = let z : f a ≡ f b = cc in ap Ok (sym (back a) ∙ ap g z ∙ back b)
+said_as_one f g back (Ok a) (Err y) e = never_granted y (sym e)
+said_as_one f g back (Err x) (Ok b) e = never_granted x e
+said_as_one {B = B} f g back (Err x) (Err y) e = ap Err (says_one {A = B} x y e)
 
-now_back : (r : NowLine) → now_of (said_now r) ≡ r
-now_back (At y d h m j) = refl
-now_back NoNow = refl
+abbrev now_back : (ℕ × (ℕ × (ℕ × ℕ))) × ℕ → NowLine × ℕ
+now_back ((y, (d, (h, m))), j) = (record { year = y; day = d; hour = h; minute = m }, j)
 
-abbrev client_of : Said (ℕ × ℕ) → ClientLine
-client_of (granted (c, j)) = Client c j
-client_of (refused n) = NoClient
-client_of (refused_at n i) = NoClient
+abbrev header_back : ℕ × (ℕ × ℕ) → HeaderLine × ℕ
+header_back (from, (to, j)) = (record { from = from; to = to }, j)
 
-client_back : (r : ClientLine) → client_of (said_client r) ≡ r
-client_back (Client c j) = refl
-client_back NoClient = refl
+abbrev sub_back : (ℕ × (ℕ × ℕ)) × ℕ → SubLine × ℕ
+sub_back ((p, (c, w)), j) = (record { place = p; client = c; wish = w }, j)
 
-abbrev header_of : Said (ℕ × (ℕ × ℕ)) → HeaderLine
-header_of (granted (from, (to, j))) = Header from to j
-header_of (refused n) = NoHeader
-header_of (refused_at n i) = NoHeader
+pub now_line_no_choice : {input : List ℕ} {at : ℕ} {r q : Result (NowLine × ℕ) Refusal} → NowLinePromise input at r → NowLinePromise input at q → r ≡ q
+now_line_no_choice {r = r} {q = q} a b = said_as_one (with_index now_parts) now_back (λ a. refl) r q (a.says ∙ sym b.says)
 
-header_back : (r : HeaderLine) → header_of (said_header r) ≡ r
-header_back (Header from to j) = refl
-header_back NoHeader = refl
+pub client_line_no_choice : {input : List ℕ} {at : ℕ} {r q : Result (ℕ × ℕ) Refusal} → ClientLinePromise input at r → ClientLinePromise input at q → r ≡ q
+client_line_no_choice {r = r} {q = q} a b = said_one r q (a.says ∙ sym b.says)
 
-abbrev sub_of : Said ((ℕ × (ℕ × ℕ)) × ℕ) → SubLine
-sub_of (granted ((p, (c, w)), j)) = Sub p c w j
-sub_of (refused n) = NoSub
-sub_of (refused_at n i) = NoSub
+pub header_line_no_choice : {input : List ℕ} {at : ℕ} {r q : Result (HeaderLine × ℕ) Refusal} → HeaderLinePromise input at r → HeaderLinePromise input at q → r ≡ q
+header_line_no_choice {r = r} {q = q} a b = said_as_one header_parts header_back (λ a. refl) r q (a.says ∙ sym b.says)
 
-sub_back : (r : SubLine) → sub_of (said_sub r) ≡ r
-sub_back (Sub p c w j) = refl
-sub_back NoSub = refl
-
-pub now_line_no_choice : {input : List ℕ} {at : ℕ} {r q : NowLine} → NowLinePromise input at r → NowLinePromise input at q → r ≡ q
-now_line_no_choice {r = r} {q = q} a b = sym (now_back r) ∙ ap now_of (a.says ∙ sym b.says) ∙ now_back q
-
-pub client_line_no_choice : {input : List ℕ} {at : ℕ} {r q : ClientLine} → ClientLinePromise input at r → ClientLinePromise input at q → r ≡ q
-client_line_no_choice {r = r} {q = q} a b = sym (client_back r) ∙ ap client_of (a.says ∙ sym b.says) ∙ client_back q
-
-pub header_line_no_choice : {input : List ℕ} {at : ℕ} {r q : HeaderLine} → HeaderLinePromise input at r → HeaderLinePromise input at q → r ≡ q
-header_line_no_choice {r = r} {q = q} a b = sym (header_back r) ∙ ap header_of (a.says ∙ sym b.says) ∙ header_back q
-
-pub sub_line_no_choice : {input : List ℕ} {at : ℕ} {r q : SubLine} → SubLinePromise input at r → SubLinePromise input at q → r ≡ q
-sub_line_no_choice {r = r} {q = q} a b = sym (sub_back r) ∙ ap sub_of (a.says ∙ sym b.says) ∙ sub_back q
+pub sub_line_no_choice : {input : List ℕ} {at : ℕ} {r q : Result (SubLine × ℕ) Refusal} → SubLinePromise input at r → SubLinePromise input at q → r ≡ q
+sub_line_no_choice {r = r} {q = q} a b = said_as_one (with_index sub_parts) sub_back (λ a. refl) r q (a.says ∙ sym b.says)

@@ -1,27 +1,26 @@
--- What each case of an answer says: a line's values with the index after it; a malformed line is 23.
-use Rattle.std.specs.Prelude.{ℕ}
-use Rattle.laws.specs.Order.{Said, granted, refused}
+-- What a line says, as its form has it: the values in their order, and the index after the line.
+use Rattle.std.specs.Prelude.{ℕ, Result, Ok, Err}
+use Rattle.laws.specs.Order.{Said, granted}
+use Rattle.refusals.specs.Refusals.{says}
+use Rattle.refusals.specs.declared.Refusal.{Refusal}
 use Rattle.input_lines.specs.declared.NowLine.{NowLine}
-use Rattle.input_lines.specs.declared.NowLine.TheVariants.{At, NoNow}
-use Rattle.input_lines.specs.declared.ClientLine.{ClientLine}
-use Rattle.input_lines.specs.declared.ClientLine.TheVariants.{Client, NoClient}
 use Rattle.input_lines.specs.declared.HeaderLine.{HeaderLine}
-use Rattle.input_lines.specs.declared.HeaderLine.TheVariants.{Header, NoHeader}
 use Rattle.input_lines.specs.declared.SubLine.{SubLine}
-use Rattle.input_lines.specs.declared.SubLine.TheVariants.{Sub, NoSub}
 
-abbrev pub said_now : NowLine → Said ((ℕ × (ℕ × (ℕ × ℕ))) × ℕ)
-said_now (At year day hour minute after) = granted ((year, (day, (hour, minute))), after)
-said_now NoNow = refused 23
+abbrev pub now_parts : NowLine → ℕ × (ℕ × (ℕ × ℕ))
+now_parts l = (l.year, (l.day, (l.hour, l.minute)))
 
-abbrev pub said_client : ClientLine → Said (ℕ × ℕ)
-said_client (Client client after) = granted (client, after)
-said_client NoClient = refused 23
+abbrev pub sub_parts : SubLine → ℕ × (ℕ × ℕ)
+sub_parts l = (l.place, (l.client, l.wish))
 
-abbrev pub said_header : HeaderLine → Said (ℕ × (ℕ × ℕ))
-said_header (Header from to after) = granted (from, (to, after))
-said_header NoHeader = refused 23
+-- where a header stands, and the index after its line
+abbrev pub header_parts : HeaderLine × ℕ → ℕ × (ℕ × ℕ)
+header_parts (l, after) = (l.from, (l.to, after))
 
-abbrev pub said_sub : SubLine → Said ((ℕ × (ℕ × ℕ)) × ℕ)
-said_sub (Sub place client wish after) = granted ((place, (client, wish)), after)
-said_sub NoSub = refused 23
+abbrev pub with_index : {A B : Type 0} → (A → B) → A × ℕ → B × ℕ
+with_index f (a, after) = (f a, after)
+
+-- what a result says, its value by f
+abbrev pub said_as : {A B : Type 0} → (A → B) → Result A Refusal → Said B
+said_as f (Ok a) = granted (f a)
+said_as f (Err e) = says e

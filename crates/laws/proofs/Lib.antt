@@ -22,4 +22,5 @@ pub mod Halving
 pub mod OrZero
 pub mod Plain
 pub mod Next
+pub mod Prefixes
 pub mod Handed

@@ -1,3 +1,4 @@
 pub mod Room
-pub mod HitsLeft
+pub mod Sizes
+pub mod Hits
 pub mod NoChoice

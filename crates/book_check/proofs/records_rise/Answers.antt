@@ -1,21 +1,38 @@
 -- At the loop's head each record passed is in range and above the one before it; the first that is not decides.
-use mathlib.Core.Path.{◌∙◌}
-use native.Mathlib.Omega.{arith}
-use Rattle.book_check.proofs.Rises.{begun, passed, stopped, ended}
+use Rattle.std.proofs.Common.{ap, sym, ◌∙◌, arith}
+use Rattle.book_records.specs.Ranks.{rank_or_none}
+use Rattle.book_records.proofs.Chunks.{length_records, in_record}
+use Rattle.book_check.proofs.Rises.{begun, passed, stopped, outside, ended}
 use Rattle.book_check.proofs.records_rise.Goals as goal
 
-pub loop-i-init : goal.loop-i-init
-loop-i-init c = begun _ _ 0 0
+pub loop-first-init : goal.loop-first-init
+loop-first-init c = begun _ _ 0 0
+
+pub returns-in_default : goal.returns-in_default
+returns-in_default c =
+    let w = c.args.book.now in
+    let i = c.loop-first.first-index in
+    let n = length_records w c.args.n c.as_chunks.result.0.now c.told-book c.requires c.as_chunks.ensures.front in
+    let r = in_record w c.args.n c.as_chunks.result.0.now i c.told-book c.requires (omega arith) c.as_chunks.ensures.front in
+    outside w c.args.n c.loop-first.last i (omega arith) (sym c.in_default.is ∙ c.rank_or_none.ensures.says ∙ ap rank_or_none r)
 
 pub returns-then-next-last : goal.returns-then-next-last
 returns-then-next-last c =
-    let turn = c.loop-i in
-    stopped _ _ _ turn.i c.rank_or_none-next.result (omega arith) (c.rank_or_none-next.ensures.says ∙ simp (c.second_at.ensures, c.first_at.ensures)) (omega arith) turn.invariant
+    let w = c.args.book.now in
+    let i = c.loop-first.first-index in
+    let n = length_records w c.args.n c.as_chunks.result.0.now c.told-book c.requires c.as_chunks.ensures.front in
+    let r = in_record w c.args.n c.as_chunks.result.0.now i c.told-book c.requires (omega arith) c.as_chunks.ensures.front in
+    stopped w c.args.n c.loop-first.last i c.in-Some.next (omega arith) (sym c.in-Some.is ∙ c.rank_or_none.ensures.says ∙ ap rank_or_none r) (omega arith) c.loop-first.invariant
 
-pub loop-i-preserved : goal.loop-i-preserved
-loop-i-preserved c =
-    let turn = c.loop-i in
-    passed _ _ _ turn.i c.rank_or_none-next.result (omega arith) (c.rank_or_none-next.ensures.says ∙ simp (c.second_at.ensures, c.first_at.ensures)) (omega arith) turn.invariant
+pub loop-first-preserved : goal.loop-first-preserved
+loop-first-preserved c =
+    let w = c.args.book.now in
+    let i = c.loop-first.first-index in
+    let n = length_records w c.args.n c.as_chunks.result.0.now c.told-book c.requires c.as_chunks.ensures.front in
+    let r = in_record w c.args.n c.as_chunks.result.0.now i c.told-book c.requires (omega arith) c.as_chunks.ensures.front in
+    passed w c.args.n c.loop-first.last i c.in-Some.next (omega arith) (sym c.in-Some.is ∙ c.rank_or_none.ensures.says ∙ ap rank_or_none r) (omega arith) c.loop-first.invariant
 
 pub returns : goal.returns
-returns c = ended _ _ _ _ (omega arith) c.loop-i.invariant
+returns c =
+    let n = length_records c.args.book.now c.args.n c.as_chunks.result.0.now c.told-book c.requires c.as_chunks.ensures.front in
+    ended _ _ _ _ (omega arith) c.loop-first.invariant

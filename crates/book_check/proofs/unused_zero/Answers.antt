@@ -1,19 +1,16 @@
--- At the loop's head the words passed, or-ed together, are 0 exactly if each is; at its end all of them are passed.
-use native.Mathlib.Omega.{arith}
-use Rattle.book_check.proofs.Zeros.{zeros_start, zeros_more, zeros_end}
-use borrow.Author.Rules.{rules}
+-- The words or-ed together are 0 exactly if each is.
+use Rattle.std.proofs.Common.{ℕ, ◌≡◌, Bool, ◌&&◌, eqb, List, ◌∙◌, sym, ap, rules, refl, bit_or}
+use Rattle.std.specs.List.{list_all}
+use Rattle.std.proofs.lemmas.Fn.{fold_over, fronts, slice_gives}
+use Rattle.laws.proofs.OrZero.{or_zero}
+use Rattle.book_check.proofs.Lists.{all_push, zeros}
 use Rattle.book_check.proofs.unused_zero.Goals as goal
-
-pub loop-j-init : goal.loop-j-init
-loop-j-init c = (search rules, zeros_start c.args.book.now c.args.n)
-
-pub loop-j-preserved : goal.loop-j-preserved
-loop-j-preserved c =
-    let l = c.loop-j in
-    let a = c.args in
-    (search rules, zeros_more a.book.now a.n l.bits l.j l.invariant.1)
 
 pub returns : goal.returns
 returns c =
-    let a = c.args in
-    zeros_end a.book.now a.n c.loop-j.bits c.loop-j.j (omega arith) (omega arith) c.loop-j.invariant.1
+    fold_over fronts (λ y. y.now) _ (λ (ys : List ℕ) (a : ℕ). eqb a 0 ≡ list_all (λ x. eqb x 0) ys) _
+    (λ ys a x b f' j k.
+    let e : b ≡ bit_or a x.now = search rules in
+    (ap (λ (m : ℕ). eqb m 0) e ∙ or_zero a x.now ∙ ap (λ (t : Bool). t && eqb x.now 0) j ∙ sym (all_push (λ x. eqb x 0) ys x.now), refl))
+    c.iter.result _ _ _ (slice_gives c.iter.result) refl c.fold.ensures.ran
+    ∙ ap (list_all (λ x. eqb x 0)) c.iter.ensures.rest ∙ zeros c.args.book.now c.args.n c.told-book c.requires

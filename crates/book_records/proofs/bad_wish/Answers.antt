@@ -1,14 +1,12 @@
--- The first test gives the lower bound, and what is left is the upper one: over 63 is not within.
-use native.Mathlib.Omega.{arith}
-use borrow.Author.Tests.{le-leb, lt-leb}
+-- In the range is within its ends.
+use mathlib.Core.Path.{ap, ◌∙◌}
+use mathlib.Core.Bool.{not}
 use Rattle.book_rules.specs.Form.{bad_wish}
-use Rattle.book_records.proofs.Second.{over}
+use Rattle.book_records.proofs.Within.{contains_within}
 use Rattle.book_records.proofs.bad_wish.Goals as goal
-
-pub returns-then-wish-lt1 : goal.returns-then-wish-lt1
-unfolding bad_wish
-returns-then-wish-lt1 c = record { says = simp (lt-leb 1 c.args.wish (omega arith)) }
 
 pub returns : goal.returns
 unfolding bad_wish
-returns c = record { says = simp (le-leb 1 c.args.wish (omega arith)) (over 63 c.args.wish) }
+returns c =
+    let n = c.new.ensures in
+    record { says = ap not (c.contains.ensures.value ∙ contains_within c.new.result 1 63 c.args.wish n.start n.end n.exhausted) }

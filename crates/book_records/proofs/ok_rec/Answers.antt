@@ -1,24 +1,40 @@
--- The definition asks state, client and wish in the order of the tests: each test that fails decides it, and the last is the answer.
-use mathlib.Core.Path.{◌∙◌, sym, ap}
-use mathlib.Core.Bool.{not}
-use borrow.Author.Tests.{le-leb, lt-leb}
-use Rattle.book_rules.specs.Form.{bad_client, bad_wish}
-use Rattle.book_records.proofs.Second.{ok_rec_is}
+-- The definition asks state, client and wish in the order of the tests: the first two that fail decide it, and the last is the answer.
+use Rattle.std.proofs.Common.{◌≡◌, ◌/◌, ◌&&◌, ◌∙◌, sym, ap, not}
+use Rattle.laws.specs.Numbers.{within}
+use Rattle.book_rules.specs.Form.{form, bad_client, bad_wish}
+use Rattle.book_records.proofs.Within.{contains_within}
+use Rattle.book_records.proofs.Second.{ok_rec_by}
 use Rattle.book_records.proofs.ok_rec.Goals as goal
+use Rattle.book_records.proofs.ok_rec.Goals.{then-contains, else-contains}
 
-pub returns-then-state-lt1 : goal.returns-then-state-lt1
-returns-then-state-lt1 c = sym (ok_rec_is _ ∙ simp (lt-leb _ _ c.if-state-lt1.true))
+-- what the first two tests say
+said : (c : goal.Else-not-bad_client) → c.if-contains.value ≡ within 1 99 (c.args.first / 10000) && not (bad_client (form.who c.args.second))
+said c =
+    let n = c.new.ensures in
+    let s : c.contains.result ≡ within 1 99 (c.args.first / 10000) =
+    c.contains.ensures.value ∙ contains_within c.new.result 1 99 (c.args.first / 10000) n.start n.end n.exhausted in
+    elim c.if-contains.branch [
+      | then-contains v ↦
+          let b = v.bad_client.ensures.says ∙ ap bad_client v.client_of.ensures.says in
+          rw (← s, v.if-contains.true, ← b) v.value-is
+      | else-contains v ↦ rw (← s, v.if-contains.false) (v.value-is ∙ v.if-contains.false)
+    ]
 
-pub returns-then-state-gt99 : goal.returns-then-state-gt99
-returns-then-state-gt99 c = sym (ok_rec_is _ ∙ simp (le-leb _ _ c.if-state-lt1.false, lt-leb _ _ c.if-state-gt99.true))
+also : (c : goal.After-bad_wish) → c.if-contains.value ≡ within 1 99 (c.args.first / 10000) && not (bad_client (form.who c.args.second))
+also c =
+    let n = c.new.ensures in
+    let s : c.contains.result ≡ within 1 99 (c.args.first / 10000) =
+    c.contains.ensures.value ∙ contains_within c.new.result 1 99 (c.args.first / 10000) n.start n.end n.exhausted in
+    elim c.if-contains.branch [
+      | then-contains v ↦
+          let b = v.bad_client.ensures.says ∙ ap bad_client v.client_of.ensures.says in
+          rw (← s, v.if-contains.true, ← b) v.value-is
+      | else-contains v ↦ rw (← s, v.if-contains.false) (v.value-is ∙ v.if-contains.false)
+    ]
 
-pub returns-then-bad_client : goal.returns-then-bad_client
-returns-then-bad_client c =
-    let b = sym (c.bad_client.ensures.says ∙ ap bad_client c.client_of.ensures.says) ∙ c.if-bad_client.true in
-    sym (ok_rec_is _ ∙ simp (le-leb _ _ c.if-state-lt1.false, le-leb _ _ c.if-state-gt99.false, b))
+pub returns-then-not-bad_client : goal.returns-then-not-bad_client
+returns-then-not-bad_client c =
+    ap not (c.bad_wish.ensures.says ∙ ap bad_wish c.wish_of.ensures.says) ∙ sym (ok_rec_by _ _ (also c) ∙ rw c.if-not-bad_client.true)
 
-pub returns : goal.returns
-returns c =
-    let b = sym (c.bad_client.ensures.says ∙ ap bad_client c.client_of.ensures.says) ∙ c.if-bad_client.false in
-    let w = c.bad_wish.ensures.says ∙ ap bad_wish c.wish_of.ensures.says in
-    ap not w ∙ sym (ok_rec_is _ ∙ simp (le-leb _ _ c.if-state-lt1.false, le-leb _ _ c.if-state-gt99.false, b))
+pub returns-else-not-bad_client : goal.returns-else-not-bad_client
+returns-else-not-bad_client c = rw c.if-not-bad_client.false (sym (ok_rec_by _ _ (said c) ∙ rw c.if-not-bad_client.false))

@@ -1,5 +1,5 @@
--- Whether the words are in range decides between 0 and the rank, which is taken from the first word and the client of the second.
-use Prim.Native.Nat.{ℕ, ◌+◌, ◌*◌}
+-- Whether the words are in range decides between none and the rank, which is taken from the first word and the client of the second.
+use Rattle.std.proofs.Common.{ℕ, ◌+◌, ◌*◌, Some}
 use mathlib.Core.Path.{sym, ◌∙◌, ap}
 use Rattle.book_records.proofs.Second.{rank_out, rank_in}
 use Rattle.book_records.proofs.rank_or_none.Goals as goal
@@ -9,10 +9,8 @@ returns-then-not-ok_rec c = record { says = sym (rank_out _ (sym c.ok_rec.ensure
 
 pub returns : goal.returns
 returns c =
-    let o = c.ok_rec in
     record {
       says =
-          c.rank_of.ensures.says
-          ∙ ap (λ (m : ℕ). c.args.first * 10000 + m) c.client_of.ensures.says
-          ∙ sym (rank_in _ (sym o.ensures ∙ c.if-not-ok_rec.false));
+          ap Some (c.rank_of.ensures.says ∙ ap (λ (m : ℕ). c.args.first * 10000 + m) c.client_of.ensures.says)
+          ∙ sym (rank_in _ (sym c.ok_rec.ensures ∙ c.if-not-ok_rec.false));
     }

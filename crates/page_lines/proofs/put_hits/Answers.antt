@@ -1,37 +1,34 @@
 -- The lines of the hits that are left, pasted at their index, give the whole.
-use native.Mathlib.Omega.{arith}
+use Rattle.std.proofs.Common.{arith}
 use Rattle.codec.proofs.Puts.{put_yes, put_no}
-use Rattle.page_lines.proofs.HitsLeft.{hits_length, hits_begun, hits_room, hits_turn, hits_ended}
+use Rattle.page_lines.proofs.Hits.{hits_length, hits_begun, hits_room, hits_turn, hits_ended}
 use Rattle.page_lines.proofs.put_hits.Goals as goal
 
-pub returns-then-out-at : goal.returns-then-out-at
-returns-then-out-at c = put_no _ _ _ (omega arith)
+pub returns-in_default : goal.returns-in_default
+returns-in_default c = let h = rw c.in_default.is at c.checked_sub.ensures in put_no _ _ _ (omega (arith, h))
 
-pub returns-then-out-at-2 : goal.returns-then-out-at-2
-returns-then-out-at-2 c = put_no _ _ _ (omega (arith, hits_length c.args.hits.now))
+pub returns-then-room-pairs : goal.returns-then-room-pairs
+returns-then-room-pairs c =
+    put_no _ _ _ (omega (arith, hits_length c.args.hits.now, c.in-Some.ensures, c.as_chunks.ensures.front_len, c.if-room-pairs.true))
 
-pub loop-i-init : goal.loop-i-init
-loop-i-init c = hits_begun _ _ _ (omega arith)
-
-pub put_hit-requires : goal.put_hit-requires
-put_hit-requires c =
-    let l = c.loop-i in
-    hits_room _ _ _ _ _ _ l.invariant c.loop-i-test.true
+pub loop-place-init : goal.loop-place-init
+loop-place-init c = hits_begun _ _ _ _ c.as_chunks.ensures.front (omega (arith, c.as_chunks.ensures.front_len, c.if-room-pairs.false))
 
 pub overflow_add-e : goal.overflow_add-e
 overflow_add-e c =
-    let l = c.loop-i in
-    omega (arith, l.invariant.rest.len, hits_room _ _ _ _ _ _ l.invariant c.loop-i-test.true)
+    let a = c.args in
+    let l = c.loop-place in
+    omega (arith, l.invariant.len, hits_room a.out.now a.at a.hits.now c.as_chunks.result.0.now _ _ l.place-index l.invariant (omega arith))
 
-pub loop-i-preserved : goal.loop-i-preserved
-loop-i-preserved c =
-    let l = c.loop-i in
-    hits_turn _ _ _ _ _ _ l.invariant _ c.loop-i-test.true c.put_hit.ensures
-
-pub shape_of-out : goal.shape_of-out
-shape_of-out c = c.loop-i.invariant.rest.len
+pub loop-place-preserved : goal.loop-place-preserved
+loop-place-preserved c =
+    let a = c.args in
+    let l = c.loop-place in
+    hits_turn a.out.now a.at a.hits.now c.as_chunks.result.0.now _ _ l.place-index l.invariant (omega arith) c.put_line.ensures
 
 pub returns : goal.returns
 returns c =
     let a = c.args in
-    put_yes (omega (arith, hits_length a.hits.now)) (hits_ended _ _ _ _ _ _ c.loop-i.invariant (omega arith))
+    let l = c.loop-place in
+    put_yes (omega (arith, hits_length a.hits.now, c.in-Some.ensures, c.as_chunks.ensures.front_len, c.if-room-pairs.false))
+    (hits_ended a.out.now a.at a.hits.now c.as_chunks.result.0.now _ _ l.place-index l.invariant (omega arith))

@@ -1,9 +1,5 @@
 -- What is left to write, pasted at its index, gives the whole: the word, then the digits.
-use mathlib.Core.Path.{refl}
-use Prim.Native.Nat.{◌+◌}
-use mathlib.Core.List.{◌++◌}
-use native.Mathlib.Omega.{arith}
-use lib.ListN.{length, length-append}
+use Rattle.std.proofs.Common.{refl, ◌+◌, ◌++◌, length, length-append, arith}
 use Rattle.laws.specs.Numbers.{dig}
 use Rattle.laws.proofs.Decimal.{length_dig}
 use Rattle.laws.proofs.Pasted.{todo}
@@ -16,4 +12,4 @@ returns c =
     let word = a.word.now in
     let digits = dig a.w a.n in
     let all = todo a.out.now a.at (word ++ digits) (omega (arith, length-append word digits, length_dig a.w a.n)) in
-    put_last (put_next word digits all c.put_bytes.ensures (a.at + length word) refl) c.put_count.ensures
+    put_last (put_next word digits all c.put_bytes.ensures (a.at + length word) refl) c.put_digits.ensures

@@ -1,13 +1,9 @@
--- The digits counted, and those that what is left has, are one more than those of the whole.
-use native.Mathlib.Omega.{arith}
-use Rattle.laws.proofs.Plain.{size_one, size_more}
+-- One digit more than the power of ten at or below the number.
+use Rattle.std.proofs.Common.{ap, ◌+◌, ◌∙◌}
+use Rattle.page_lines.proofs.Sizes.{size_by_power}
 use Rattle.page_lines.proofs.size_of.Goals as goal
 
-pub loop-v-init : goal.loop-v-init
-loop-v-init c = (omega arith, omega arith)
-
-pub loop-v-preserved : goal.loop-v-preserved
-loop-v-preserved c = (omega arith, omega (arith, c.loop-v.invariant.1, size_more c.loop-v.v (omega arith)))
-
 pub returns : goal.returns
-returns c = omega (arith, c.loop-v.invariant.1, size_one c.loop-v.v (omega arith))
+returns c =
+    let k = c.checked_ilog10.ensures in
+    record { says = ap (λ w. w + 1) c.unwrap_or.ensures ∙ size_by_power _ _ k.none k.power_le k.next_power_gt }
