@@ -3,10 +3,9 @@ use Prim.Native.Nat.{ℕ}
 use mathlib.Core.Path.{◌≡◌, sym, ap}
 use mathlib.Core.Bool.{Bool, true, false}
 use mathlib.Core.List.{List}
+use Rattle.std.specs.Prelude.{Some, None}
 use Rattle.laws.proofs.Tests.{impossible}
 use Rattle.codec.specs.Codec.{Out, got, no}
-use Rattle.codec.specs.declared.Number.{Number}
-use Rattle.codec.specs.declared.Number.TheVariants.{Is, NoNumber}
 
 is_got : {A : Type 0} → Out A → Bool
 is_got (got a s i) = true
@@ -16,10 +15,5 @@ pub got_no : {A X : Type 0} {a : A} {s : List ℕ} {i n j : ℕ} → got a s i �
 unfolding is_got
 got_no e = impossible (sym (ap is_got e))
 
-is_some : Number → Bool
-is_some (Is n) = true
-is_some NoNumber = false
-
-pub is_none : {X : Type 0} {n : ℕ} → Is n ≡ NoNumber → X
-unfolding is_some
-is_none e = impossible (sym (ap is_some e))
+pub is_none : {A X : Type 0} {a : A} → Some a ≡ None → X
+is_none e = cc

@@ -4,12 +4,12 @@ use mathlib.Core.Path.{◌≡◌, refl, sym, ap, ◌∙◌}
 use mathlib.Core.List.{List}
 use mathlib.Core.Bool.{Bool, true, false}
 use lib.ListN.{length}
+use Rattle.std.specs.Prelude.{Option}
 use Rattle.laws.specs.Order.{is_refusal}
 use Rattle.laws.specs.Space.{pasted}
 use Rattle.laws.proofs.Tests.{impossible}
 use Rattle.laws.proofs.Order.{refusal_leaves}
 use Rattle.codec.specs.Promise.{BetweenPromise, SamePromise, DigitsAtPromise, put_says, said_put, PutPromise}
-use Rattle.codec.specs.declared.Number.{Number}
 
 pub between_no_choice : {lo hi b : ℕ} {r r' : Bool} → BetweenPromise lo hi b r → BetweenPromise lo hi b r' → r ≡ r'
 between_no_choice p q = p.says ∙ sym q.says
@@ -17,7 +17,7 @@ between_no_choice p q = p.says ∙ sym q.says
 pub same_no_choice : {a b : List ℕ} {r r' : Bool} → SamePromise a b r → SamePromise a b r' → r ≡ r'
 same_no_choice p q = p.says ∙ sym q.says
 
-pub digits_at_no_choice : {t : List ℕ} {at width : ℕ} {r r' : Number} → DigitsAtPromise t at width r → DigitsAtPromise t at width r' → r ≡ r'
+pub digits_at_no_choice : {t : List ℕ} {at width : ℕ} {r r' : Option ℕ} → DigitsAtPromise t at width r → DigitsAtPromise t at width r' → r ≡ r'
 digits_at_no_choice p q = p.says ∙ sym q.says
 
 -- of put_byte, put_bytes, put_count and put_digits

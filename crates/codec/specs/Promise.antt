@@ -1,11 +1,9 @@
 -- What the calls on bytes and digits promise. Paper 01, "Numbers and what they leave".
-use Rattle.std.specs.Prelude.{ℕ, ◌+◌, ◌≡◌, List, [], ◌∷◌, Bool, true, false, ◌&&◌, length, take, drop, leb, ltb}
+use Rattle.std.specs.Prelude.{ℕ, ◌+◌, ◌≡◌, List, [], ◌∷◌, Bool, true, false, ◌&&◌, length, take, drop, leb, ltb, Option, Some, None}
 use Rattle.laws.specs.Order.{Said, granted, refused, ◌when◌, in_order, choose}
 use Rattle.laws.specs.Lists.{every, same}
 use Rattle.laws.specs.Numbers.{within, digit, decimal}
 use Rattle.laws.specs.Space.{pasted, leaves}
-use Rattle.codec.specs.declared.Number.{Number}
-use Rattle.codec.specs.declared.Number.TheVariants.{Is, NoNumber}
 
 pub record BetweenPromise (lo hi b : ℕ) (r : Bool) : Type 0 where
   pub says : r ≡ within lo hi b
@@ -14,13 +12,13 @@ pub record SamePromise (a b : List ℕ) (r : Bool) : Type 0 where
   pub says : r ≡ same a b
 
 -- the number that the `width` digits at index `at` make: at most nine digits, all of them in the text
-unfoldable pub number_at : List ℕ → ℕ → ℕ → Number
+unfoldable pub number_at : List ℕ → ℕ → ℕ → Option ℕ
 number_at text at width =
     choose (leb width 9 && (leb (at + width) (length text) && every digit (take width (drop at text))))
-    (Is (decimal (take width (drop at text))))
-    NoNumber
+    (Some (decimal (take width (drop at text))))
+    None
 
-pub record DigitsAtPromise (text : List ℕ) (at width : ℕ) (r : Number) : Type 0 where
+pub record DigitsAtPromise (text : List ℕ) (at width : ℕ) (r : Option ℕ) : Type 0 where
   pub says : r ≡ number_at text at width
 
 -- 13: the lent space ends before the bytes do

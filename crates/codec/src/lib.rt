@@ -5,71 +5,36 @@ ghost use Rattle.std.specs.Prelude.{◌≡◌, ◌∷◌, []};
 ghost use Rattle.laws.specs.Numbers.{dig};
 ghost use Rattle.codec.specs.Promise.{BetweenPromise, SamePromise, DigitsAtPromise, PutPromise};
 
-// What digits say: a number, or none where they are no digits or too many or do not stand there.
-#[derive(Clone, Copy)]
-pub enum Number {
-    Is(u32),
-    NoNumber,
-}
-
-fn wide(b: u8) -> u32
-    ensures { result ≡ b }
-{
-    b as u32
-}
-
 // Whether lo ≤ b ≤ hi.
 pub fn between(lo: u8, hi: u8, b: u8) -> bool
     ensures { BetweenPromise lo hi b result }
 {
-    if b < lo {
-        return false;
-    }
-    b <= hi
+    lo <= b && b <= hi
 }
 
-// Whether a and b are the same bytes. One look at each, up to the first that differs.
+// Whether a and b are the same bytes.
 pub fn same(a: &[u8], b: &[u8]) -> bool
     ensures { SamePromise a.now b.now result }
 {
-    if a.len() != b.len() {
-        return false;
-    }
-    let mut k: usize = 0;
-    while k < a.len() {
-        if a[k] != b[k] {
-            return false;
-        }
-        k += 1;
-    }
-    true
+    a == b
 }
 
 // The number that the width digits at index at make; none where one is no digit, where fewer bytes stand there, or where width is
 // over 9, so that it fits.
-pub fn digits_at(text: &[u8], at: usize, width: usize) -> Number
+pub fn digits_at(text: &[u8], at: usize, width: usize) -> Option<u32>
     ensures { DigitsAtPromise text.now at width result }
 {
     if 9 < width {
-        return Number::NoNumber;
-    }
-    if text.len() < at {
-        return Number::NoNumber;
-    }
-    if text.len() - at < width {
-        return Number::NoNumber;
+        return None;
     }
     let mut n: u32 = 0;
-    let mut k: usize = 0;
-    while k < width {
-        let b = text[at + k];
-        if !between(48, 57, b) {
-            return Number::NoNumber;
+    for b in text.get(at..)?.get(..width)? {
+        if !between(48, 57, *b) {
+            return None;
         }
-        n = n * 10 + (wide(b) - 48);
-        k += 1;
+        n = n * 10 + u32::from(*b - 48);
     }
-    Number::Is(n)
+    Some(n)
 }
 
 // Puts one byte at index at and says yes, or says no where there is no room for it and writes nothing.
@@ -87,17 +52,10 @@ pub fn put_byte(out: &mut [u8], at: usize, b: u8) -> bool
 pub fn put_bytes(out: &mut [u8], at: usize, src: &[u8]) -> bool
     ensures { PutPromise out.old at src.now result out.new }
 {
-    if out.len() < at {
+    if out.len() < at || out.len() - at < src.len() {
         return false;
     }
-    if out.len() - at < src.len() {
-        return false;
-    }
-    let mut k: usize = 0;
-    while k < src.len() {
-        out[at + k] = src[k];
-        k += 1;
-    }
+    out[at..at + src.len()].copy_from_slice(src);
     true
 }
 
@@ -106,18 +64,13 @@ pub fn put_bytes(out: &mut [u8], at: usize, src: &[u8]) -> bool
 pub fn put_count(out: &mut [u8], at: usize, n: usize, width: usize) -> bool
     ensures { PutPromise out.old at (dig width n) result out.new }
 {
-    if out.len() < at {
-        return false;
-    }
-    if out.len() - at < width {
+    if out.len() < at || out.len() - at < width {
         return false;
     }
     let mut v = n;
-    let mut k = width;
-    while 0 < k {
-        k -= 1;
+    for k in (0..width).rev() {
         out[at + k] = (48 + v % 10) as u8;
-        v = v / 10;
+        v /= 10;
     }
     true
 }

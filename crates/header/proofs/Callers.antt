@@ -1,4 +1,5 @@
 -- A text that reads gives fields that the table allows: those who call `read` take it from here and need not open the table.
+use Rattle.std.specs.Prelude.{Ok, Err}
 use Prim.Native.Nat.{ℕ, ◌-◌, ◌/◌, ◌%◌, ◌≤◌}
 use mathlib.Core.Path.{◌≡◌, refl, sym, ap, ◌∙◌}
 use mathlib.Core.Bool.{Bool, true, ◌&&◌}
@@ -13,14 +14,13 @@ use Rattle.laws.specs.Lists.{every}
 use Rattle.laws.specs.Numbers.{within}
 use Rattle.laws.proofs.Clash.{clash}
 use Rattle.laws.proofs.Tests.{and_l, and_r, not_not, within_lo, within_hi}
+use Rattle.refusals.specs.Refusals.{says}
+use Rattle.refusals.specs.declared.Refusal.{Refusal}
 use Rattle.header.specs.Header.{is_origin, is_event, is_issue, is_sender, is_duration, place, front, header, Alert, text_of, WellFormed}
 use Rattle.header.specs.Reading.{read_says}
-use Rattle.header.specs.Answers.{fields_of, fields_for, read_verdict_says}
+use Rattle.header.specs.Answers.{fields_of, fields_for, said_read}
 use Rattle.header.specs.Promise.{ReadPromise}
 use Rattle.header.specs.declared.Fields.{Fields}
-use Rattle.header.specs.declared.ReadAnswer.{ReadAnswer}
-use Rattle.header.specs.declared.ReadVerdict.{ReadVerdict}
-use Rattle.header.specs.declared.ReadVerdict.TheVariants.{Reads, StopsAt}
 use Rattle.header.proofs.Round.{read_form, written}
 use Rattle.header.proofs.Allowed.{duration_ok, issue_ok, Issued, issued}
 
@@ -63,54 +63,53 @@ duration_bounds m h = written (m / 60) (m % 60) (sym (duration_ok m) ∙ h) (λ 
 
 -- ---- a text that was read
 
-pub record IsRead (t : List ℕ) (r : ReadAnswer) : Type 0 where
+pub record IsRead (t : List ℕ) (f : Fields) : Type 0 where
   pub alert : Alert
   pub reads : read_says t ≡ granted alert
-  pub fields : r.fields ≡ fields_of alert
+  pub fields : f ≡ fields_of alert
   pub same : t ≡ text_of alert
   pub fine : Allowed alert
 
-module _ {t : List ℕ} {r : ReadAnswer} (p : ReadPromise t r) where
-  pub is_read : r.verdict ≡ Reads → IsRead t r
-  is_read v = go (read_says t) refl (sym (ap (λ (x : ReadVerdict). read_verdict_says x r.fields) v) ∙ p.says)
-    where
-      go : (s : Said Alert) → read_says t ≡ s → read_verdict_says Reads r.fields ≡ read_says t → IsRead t r
-      go (granted a) z w =
-          let f = read_form t a z in
-          record { alert = a; reads = z; fields = p.fields ∙ ap fields_for z; same = f.1; fine = allowed a f.0 }
-      go (refused n) z w = (let y = w ∙ z in clash cc)
-      go (refused_at n i) z w = (let y = w ∙ z in clash cc)
+pub is_read : {t : List ℕ} {f : Fields} → ReadPromise t (Ok f) → IsRead t f
+is_read {t} {f} p = go (read_says t) refl p.says
+  where
+    go : (s : Said Alert) → read_says t ≡ s → said_read (Ok f) ≡ read_says t → IsRead t f
+    go (granted a) z w =
+        let o = read_form t a z in
+        record { alert = a; reads = z; fields = p.fields ∙ ap fields_for z; same = o.1; fine = allowed a o.0 }
+    go (refused n) z w = (let y = w ∙ z in clash cc)
+    go (refused_at n i) z w = (let y = w ∙ z in clash cc)
 
-  pub is_refused : (n i : ℕ) → r.verdict ≡ StopsAt n i → read_says t ≡ refused_at n i
-  is_refused n i v = sym p.says ∙ ap (λ (x : ReadVerdict). read_verdict_says x r.fields) v
+pub is_refused : {t : List ℕ} {e : Refusal} → ReadPromise t (Err e) → read_says t ≡ says e
+is_refused p = sym p.says
 
-module _ {t : List ℕ} {r : ReadAnswer} (g : IsRead t r) where
-  pub read_count : (1 ≤ r.fields.count) × (r.fields.count ≤ 31)
+module _ {t : List ℕ} {f : Fields} (g : IsRead t f) where
+  pub read_count : (1 ≤ f.count) × (f.count ≤ 31)
   read_count =
-      let e : r.fields.count ≡ length g.alert.places = ap (λ (f : Fields). f.count) g.fields in
+      let e : f.count ≡ length g.alert.places = ap (λ (x : Fields). x.count) g.fields in
       (omega (arith, g.fine.some), omega (arith, g.fine.most))
 
   -- the places that stand are the alert's; there are 31 entries
-  pub read_places : take r.fields.count r.fields.places ≡ g.alert.places
+  pub read_places : take f.count f.places ≡ g.alert.places
   read_places =
-      ap (λ (f : Fields). take f.count f.places) g.fields
+      ap (λ (x : Fields). take x.count x.places) g.fields
       ∙ take_at g.alert.places (replicate (31 - length g.alert.places) 0) (length g.alert.places) refl
 
-  pub read_entries : length r.fields.places ≡ 31
+  pub read_entries : length f.places ≡ 31
   read_entries =
       let ps : List ℕ = g.alert.places in
-      ap (λ (f : Fields). length f.places) g.fields
+      ap (λ (x : Fields). length x.places) g.fields
       ∙ length-append ps (replicate (31 - length ps) 0)
       ∙ omega (arith, length-replicate {A = ℕ} (31 - length ps) 0, g.fine.most)
 
-  pub read_event : length r.fields.event ≡ 3
-  read_event = ap (λ (f : Fields). length f.event) g.fields ∙ g.fine.event.0
+  pub read_event : length f.event ≡ 3
+  read_event = ap (λ (x : Fields). length x.event) g.fields ∙ g.fine.event.0
 
-  pub read_duration : is_duration r.fields.duration ≡ true
-  read_duration = ap (λ (f : Fields). is_duration f.duration) g.fields ∙ g.fine.minutes
+  pub read_duration : is_duration f.duration ≡ true
+  read_duration = ap (λ (x : Fields). is_duration x.duration) g.fields ∙ g.fine.minutes
 
-  pub read_issue : is_issue r.fields.day r.fields.hour r.fields.minute ≡ true
-  read_issue = ap (λ (f : Fields). is_issue f.day f.hour f.minute) g.fields ∙ g.fine.issue
+  pub read_issue : is_issue f.day f.hour f.minute ≡ true
+  read_issue = ap (λ (x : Fields). is_issue x.day x.hour x.minute) g.fields ∙ g.fine.issue
 
-  pub read_moment : Issued r.fields.day r.fields.hour r.fields.minute
-  read_moment = issued r.fields.day r.fields.hour r.fields.minute read_issue
+  pub read_moment : Issued f.day f.hour f.minute
+  read_moment = issued f.day f.hour f.minute read_issue

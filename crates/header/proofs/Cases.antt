@@ -1,5 +1,6 @@
 -- Worked examples, each of reading a whole text, by computation.
 use Prim.Native.Nat.{ℕ, zero, suc}
+use Rattle.std.specs.Prelude.{Result}
 use mathlib.Core.Path.{◌≡◌, refl, ap, ◌∙◌}
 use mathlib.Core.List.{List, [], ◌++◌}
 use native.Mathlib.Omega.{arith}
@@ -7,12 +8,12 @@ use lib.ListN.{take}
 use Rattle.laws.specs.Order.{granted, refused_at}
 use Rattle.laws.specs.Text.{ascii}
 use Rattle.codec.specs.Codec.{fits}
+use Rattle.refusals.specs.declared.Refusal.{Refusal}
 use Rattle.header.specs.Header.{front, header, text_of}
 use Rattle.header.specs.Reading.{read_says}
 use Rattle.header.specs.Samples.{sample, sample_says, lasting, lasts}
-use Rattle.header.specs.Answers.{fields_for}
+use Rattle.header.specs.Answers.{fields_for, fields_read}
 use Rattle.header.specs.Promise.{ReadPromise}
-use Rattle.header.specs.declared.ReadAnswer.{ReadAnswer}
 use Rattle.header.specs.declared.Fields.{Fields}
 
 -- ---- the sample of the paper
@@ -63,11 +64,11 @@ d0090 = refl
 
 -- ---- no reader answers all texts alike, and none refuses every text
 
-pub two_texts : (r s : ReadAnswer) → ReadPromise (lasting "0130") r → ReadPromise (lasting "9930") s → r.fields ≡ s.fields → ⊥
+pub two_texts : (r s : Result Fields Refusal) → ReadPromise (lasting "0130") r → ReadPromise (lasting "9930") s → fields_read r ≡ fields_read s → ⊥
 two_texts r s p q e =
-    let x : r.fields.duration ≡ 90 = ap (λ (f : Fields). f.duration) (p.fields ∙ ap fields_for d0130) in
-    let y : s.fields.duration ≡ 5970 = ap (λ (f : Fields). f.duration) (q.fields ∙ ap fields_for d9930) in
-    let z : r.fields.duration ≡ s.fields.duration = ap (λ (f : Fields). f.duration) e in
+    let x : (fields_read r).duration ≡ 90 = ap (λ (f : Fields). f.duration) (p.fields ∙ ap fields_for d0130) in
+    let y : (fields_read s).duration ≡ 5970 = ap (λ (f : Fields). f.duration) (q.fields ∙ ap fields_for d9930) in
+    let z : (fields_read r).duration ≡ (fields_read s).duration = ap (λ (f : Fields). f.duration) e in
     omega arith
 
 -- ---- 31 places and a 32nd in 237 bytes: 8 at the 32nd's own start, whatever stands there; 253 bytes: 4 at 252

@@ -1,4 +1,5 @@
 -- What was written reads back and what was read writes back, by the promises of the two calls; the writer's number is the first row's that holds.
+use Rattle.std.specs.Prelude.{Result}
 use Prim.Native.Nat.{ℕ, ◌+◌, ◌-◌, ◌≤◌, ◌<◌}
 use mathlib.Core.Path.{◌≡◌, refl, sym, ap, ◌∙◌}
 use mathlib.Core.Logic.{◌⊎◌}
@@ -13,14 +14,14 @@ use Rattle.laws.specs.Order.{Said, granted, refused, ◌when◌, Quiet, none, mo
 use Rattle.laws.specs.Space.{pasted, leaves}
 use Rattle.laws.proofs.Order.{exactly, said_last, given, quiet_groups, granted_quiet}
 use Rattle.laws.proofs.Quiet.{quiet_left, quiet_right}
+use Rattle.refusals.specs.Refusals.{said}
+use Rattle.refusals.specs.declared.Refusal.{Refusal}
 use Rattle.header.specs.Header.{Alert, front, header, parts_of, text_of, WellFormed}
 use Rattle.header.specs.Reading.{read_says}
 use Rattle.header.specs.Writing.{write_rows, write_says}
-use Rattle.header.specs.Answers.{alert_in, fields_of, fields_for, said_read, said_wrote}
+use Rattle.header.specs.Answers.{alert_in, fields_of, fields_for, fields_read, said_read}
 use Rattle.header.specs.Promise.{ReadPromise, WritePromise}
 use Rattle.header.specs.declared.Fields.{Fields}
-use Rattle.header.specs.declared.ReadAnswer.{ReadAnswer}
-use Rattle.header.specs.declared.Wrote.{Wrote}
 use Rattle.header.proofs.Round.{read_form, form_read}
 use Rattle.header.proofs.Says.{kept, filled}
 
@@ -72,8 +73,8 @@ front_of : (d t : List ℕ) (n : ℕ) → length t ≡ n → take n (pasted d 0 
 unfolding pasted
 front_of d t n e = take_at t (drop (0 + length t) d) n e
 
-module _ {f : Fields} {d d' : List ℕ} {w : Wrote} {n : ℕ} {r : ReadAnswer}
-    (p : WritePromise f d d' w) (s : said_wrote w ≡ granted n) (q : ReadPromise (take n d') r) where
+module _ {f : Fields} {d d' : List ℕ} {w : Result ℕ Refusal} {n : ℕ} {r : Result Fields Refusal}
+    (p : WritePromise f d d' w) (s : said w ≡ granted n) (q : ReadPromise (take n d') r) where
   written : (WellFormed (alert_in f)) × (take n d' ≡ text_of (alert_in f))
   written =
       let a : Alert = alert_in f in
@@ -86,26 +87,26 @@ module _ {f : Fields} {d d' : List ℕ} {w : Wrote} {n : ℕ} {r : ReadAnswer}
   reads_it = ap read_says written.1 ∙ form_read (alert_in f) written.0
 
   -- what is said is the same; entries of the list past the count, which no text carries, come back as zeros
-  pub write_read : (said_read r ≡ granted (alert_in f)) × (r.fields ≡ fields_of (alert_in f))
+  pub write_read : (said_read r ≡ granted (alert_in f)) × (fields_read r ≡ fields_of (alert_in f))
   write_read = (q.says ∙ reads_it, q.fields ∙ ap fields_for reads_it)
 
   -- fields with zeros there come back whole
-  pub write_read_same : f.count ≤ 31 → drop f.count f.places ≡ replicate (31 - f.count) 0 → length f.places ≡ 31 → r.fields ≡ f
+  pub write_read_same : f.count ≤ 31 → drop f.count f.places ≡ replicate (31 - f.count) 0 → length f.places ≡ 31 → fields_read r ≡ f
   write_read_same low rest len = write_read.1 ∙ sym (filled f low rest len)
 
 -- ---- a text that was read writes back the same, where there is room
 
-module _ {t : List ℕ} {r : ReadAnswer} {a : Alert} {d d' : List ℕ} {w : Wrote}
-    (p : ReadPromise t r) (s : said_read r ≡ granted a) (q : WritePromise r.fields d d' w) (h : length t ≤ length d) where
-  pub read_write : (said_wrote w ≡ granted (length t)) × (d' ≡ pasted d 0 t)
+module _ {t : List ℕ} {r : Result Fields Refusal} {a : Alert} {d d' : List ℕ} {w : Result ℕ Refusal}
+    (p : ReadPromise t r) (s : said_read r ≡ granted a) (q : WritePromise (fields_read r) d d' w) (h : length t ≤ length d) where
+  pub read_write : (said w ≡ granted (length t)) × (d' ≡ pasted d 0 t)
   read_write =
       let e : read_says t ≡ granted a = sym p.says ∙ s in
       let f = read_form t a e in
-      let k : alert_in r.fields ≡ a = ap alert_in (p.fields ∙ ap fields_for e) ∙ kept a in
+      let k : alert_in (fields_read r) ≡ a = ap alert_in (p.fields ∙ ap fields_for e) ∙ kept a in
       let l : length (text_of a) ≡ length t = ap length (sym f.1) in
-      let v : write_says (alert_in r.fields) (length d) ≡ granted (length t) =
+      let v : write_says (alert_in (fields_read r)) (length d) ≡ granted (length t) =
       ap (λ (x : Alert). write_says x (length d)) k ∙ form_write a (length d) f.0 (omega arith) ∙ ap granted l in (
         q.says ∙ v,
-        q.space ∙ ap (λ (x : Said ℕ). leaves (λ n out. pasted out 0 (text_of (alert_in r.fields))) x d) v
+        q.space ∙ ap (λ (x : Said ℕ). leaves (λ n out. pasted out 0 (text_of (alert_in (fields_read r)))) x d) v
             ∙ ap (λ (x : Alert). pasted d 0 (text_of x)) k ∙ ap (pasted d 0) (sym f.1),
       )

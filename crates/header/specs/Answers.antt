@@ -1,13 +1,10 @@
 -- The answers of the calls, in the paper's numbers and values.
-use Rattle.std.specs.Prelude.{ℕ, ◌-◌, List, ◌++◌, length, take, replicate}
+use Rattle.std.specs.Prelude.{ℕ, ◌-◌, List, ◌++◌, length, take, replicate, Result, Ok, Err}
 use Rattle.laws.specs.Order.{Said, granted, refused, refused_at}
+use Rattle.refusals.specs.Refusals.{says}
 use Rattle.header.specs.Header.{Alert}
 use Rattle.header.specs.declared.Fields.{Fields}
-use Rattle.header.specs.declared.ReadVerdict.{ReadVerdict}
-use Rattle.header.specs.declared.ReadVerdict.TheVariants.{Reads, StopsAt}
-use Rattle.header.specs.declared.ReadAnswer.{ReadAnswer}
-use Rattle.header.specs.declared.Wrote.{Wrote}
-use Rattle.header.specs.declared.Wrote.TheVariants.{Written, Refused}
+use Rattle.refusals.specs.declared.Refusal.{Refusal}
 
 -- ---- the fields that a call is handed or hands back: 31 places, of which `count` stand
 
@@ -59,17 +56,14 @@ fields_for (granted a) = fields_of a
 fields_for (refused n) = no_fields
 fields_for (refused_at n i) = no_fields
 
--- ---- what the answers say
-
-abbrev pub read_verdict_says : ReadVerdict → Fields → Said Alert
-read_verdict_says Reads f = granted (alert_in f)
-read_verdict_says (StopsAt n i) f = refused_at n i
+-- ---- what the answer says
 
 -- the answer of `read`
-abbrev pub said_read : ReadAnswer → Said Alert
-said_read r = read_verdict_says r.verdict r.fields
+abbrev pub said_read : Result Fields Refusal → Said Alert
+said_read (Ok f) = granted (alert_in f)
+said_read (Err e) = says e
 
--- the answer of `write`
-abbrev pub said_wrote : Wrote → Said ℕ
-said_wrote (Written n) = granted n
-said_wrote (Refused n) = refused n
+-- the fields that it hands back; all zeros where there are none
+abbrev pub fields_read : Result Fields Refusal → Fields
+fields_read (Ok f) = f
+fields_read (Err e) = no_fields

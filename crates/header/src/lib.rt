@@ -20,26 +20,6 @@ pub struct Fields {
     pub sender: [u8; 8],
 }
 
-#[derive(Clone, Copy)]
-pub enum ReadVerdict {
-    Reads,
-    StopsAt(u32, usize),
-}
-
-// What reading answers; where it is refused, the fields are zeros.
-#[derive(Clone, Copy)]
-pub struct ReadAnswer {
-    pub verdict: ReadVerdict,
-    pub fields: Fields,
-}
-
-// What writing answers: how many bytes, or the number.
-#[derive(Clone, Copy)]
-pub enum Wrote {
-    Written(usize),
-    Refused(u32),
-}
-
 fn sender_byte(b: u8) -> bool
     ensures { result ≡ is_sender_byte b }
 {
@@ -56,28 +36,14 @@ fn sender_byte(b: u8) -> bool
 pub fn is_event(b: &[u8]) -> bool
     ensures { IsEventPromise b.now result }
 {
-    let mut k: usize = 0;
-    while k < b.len() {
-        if !codec::between(65, 90, b[k]) {
-            return false;
-        }
-        k += 1;
-    }
-    true
+    b.iter().all(|x| codec::between(65, 90, *x))
 }
 
 // Whether bytes are all ones that a sender may have.
 pub fn is_sender(b: &[u8]) -> bool
     ensures { IsSenderPromise b.now result }
 {
-    let mut k: usize = 0;
-    while k < b.len() {
-        if !sender_byte(b[k]) {
-            return false;
-        }
-        k += 1;
-    }
-    true
+    b.iter().all(|x| sender_byte(*x))
 }
 
 // Whether bytes are one of the four origins.

@@ -1,15 +1,15 @@
 -- A duration and an issue by the numbers that their digits make.
 use Prim.Native.Nat.{ℕ, ◌+◌, ◌*◌}
-use mathlib.Core.Path.{◌≡◌, ◌∙◌}
+use mathlib.Core.Path.{◌≡◌, sym, ◌∙◌}
 use mathlib.Core.List.{List}
 use mathlib.Core.Bool.{false, ◌&&◌, and-false}
 use native.Mathlib.Omega.{arith}
 use lib.ListN.{take, drop}
+use Rattle.std.specs.Prelude.{Some}
 use Rattle.laws.specs.Lists.{every}
 use Rattle.laws.specs.Numbers.{digit, dec_from}
 use Rattle.laws.proofs.Parts.{part_head, part_tail}
 use Rattle.codec.specs.Promise.{number_at}
-use Rattle.codec.specs.declared.Number.TheVariants.{Is}
 use Rattle.codec.proofs.Numbers.{number_is}
 use Rattle.header.specs.Header.{is_duration_of, is_issue, duration, issue}
 
@@ -32,10 +32,10 @@ pub record Duration (t : List ℕ) (at h m : ℕ) : Type 0 where
   pub test : duration.allowed (take 4 (drop at t)) ≡ is_duration_of (h, m)
   pub mean : duration.value (take 4 (drop at t)) ≡ h * 60 + m
 
-pub a_duration : (t : List ℕ) (at h m : ℕ) → number_at t at 2 ≡ Is h → number_at t (at + 2) 2 ≡ Is m → Duration t at h m
+pub a_duration : (t : List ℕ) (at h m : ℕ) → Some h ≡ number_at t at 2 → Some m ≡ number_at t (at + 2) 2 → Duration t at h m
 a_duration t at h m eh em =
-    let x = number_is _ _ _ _ eh in
-    let y = number_is _ _ _ _ em in
+    let x = number_is _ _ _ _ (sym eh) in
+    let y = number_is _ _ _ _ (sym em) in
     record {
       test = duration_parts t at ∙ simp (x.0, x.1, y.0, y.1);
       mean = simp (part_head t at 4 2 (omega arith), part_tail t at 2 2, x.1, y.1);
@@ -66,11 +66,11 @@ pub record Moment (t : List ℕ) (at d h m : ℕ) : Type 0 where
   pub mean : issue.value (take 7 (drop at t)) ≡ (d, (h, m))
 
 pub a_moment : (t : List ℕ) (at d h m : ℕ)
-    → number_at t at 3 ≡ Is d → number_at t (at + 3) 2 ≡ Is h → number_at t (at + 5) 2 ≡ Is m → Moment t at d h m
+    → Some d ≡ number_at t at 3 → Some h ≡ number_at t (at + 3) 2 → Some m ≡ number_at t (at + 5) 2 → Moment t at d h m
 a_moment t at d h m ed eh em =
-    let x = number_is _ _ _ _ ed in
-    let y = number_is _ _ _ _ eh in
-    let z = number_is _ _ _ _ em in
+    let x = number_is _ _ _ _ (sym ed) in
+    let y = number_is _ _ _ _ (sym eh) in
+    let z = number_is _ _ _ _ (sym em) in
     record {
       test = issue_parts t at ∙ simp (x.0, x.1, y.0, y.1, z.0, z.1);
       mean = simp (

@@ -1,11 +1,11 @@
 -- What the calls promise of a text and an index in it, or past it.
-use Rattle.std.specs.Prelude.{ℕ, ◌≡◌, Bool, List, drop}
+use Rattle.std.specs.Prelude.{ℕ, ◌≡◌, Bool, List, drop, Option, Result}
+use Rattle.refusals.specs.Refusals.{said}
+use Rattle.refusals.specs.declared.Refusal.{Refusal}
 use Rattle.codec.specs.Kind.{Kind}
 use Rattle.codec.specs.Codec.{fits, is, either, step, field}
-use Rattle.codec.specs.declared.Number.{Number}
 use Rattle.header.specs.Header.{dash, plus, place, duration, issue}
-use Rattle.header_fields.specs.Says.{place_says, minutes_says, issue_says}
-use Rattle.header_fields.specs.declared.Step.{Step}
+use Rattle.header_fields.specs.Says.{told, minutes_says, issue_says}
 use Rattle.header_fields.specs.declared.Issue.{Issue}
 
 -- whether the field and `-` stand there
@@ -13,11 +13,11 @@ pub record StandsPromise {A : Type 0} (k : Kind A) (text : List ℕ) (at : ℕ) 
   pub says : r ≡ fits k (is dash) (drop at text)
 
 -- a place, with either mark
-pub record PlaceAtPromise (text : List ℕ) (at : ℕ) (r : Step) : Type 0 where
-  pub says : place_says text r ≡ step 8 place (either dash plus) (drop at text) at
+pub record PlaceAtPromise (text : List ℕ) (at : ℕ) (r : Result (ℕ × ℕ) Refusal) : Type 0 where
+  pub says : said r ≡ told (step 8 place (either dash plus) (drop at text) at)
 
-pub record MinutesAtPromise (text : List ℕ) (at : ℕ) (r : Number) : Type 0 where
+pub record MinutesAtPromise (text : List ℕ) (at : ℕ) (r : Option ℕ) : Type 0 where
   pub says : minutes_says text at r ≡ (field 9 duration dash).get (drop at text) at
 
-pub record IssueAtPromise (text : List ℕ) (at : ℕ) (r : Issue) : Type 0 where
+pub record IssueAtPromise (text : List ℕ) (at : ℕ) (r : Option Issue) : Type 0 where
   pub says : issue_says text at r ≡ (field 10 issue dash).get (drop at text) at

@@ -4,21 +4,14 @@
 ghost use Rattle.header.specs.Header.{start, origin, event, sender};
 ghost use Rattle.header_fields.specs.Promise.{StandsPromise, PlaceAtPromise, MinutesAtPromise, IssueAtPromise};
 
-use codec::Number;
+use refusals::Refusal;
 
-// A step of reading: what was got, with the index after its mark; or the number and the index at which reading stops. Of one place it
-// is the code, and of a list of places how many they are.
+// When a header was issued.
 #[derive(Clone, Copy)]
-pub enum Step {
-    Got(u32, usize),
-    Stop(u32, usize),
-}
-
-// Day, hour and minute.
-#[derive(Clone, Copy)]
-pub enum Issue {
-    When(u32, u32, u32),
-    NoIssue,
+pub struct Issue {
+    pub day: u32,
+    pub hour: u32,
+    pub minute: u32,
 }
 
 // Whether ZCZC and its mark stand there.
@@ -93,81 +86,42 @@ pub fn sender_at(text: &[u8], at: usize) -> bool
     text[e] == 45
 }
 
-// The place that stands there with either mark, and the index after it; or 8 and the index.
-pub fn place_at(text: &[u8], at: usize) -> Step
+// The code of the place that stands there with either mark, and the index after its mark.
+pub fn place_at(text: &[u8], at: usize) -> Result<(u32, usize), Refusal>
     ensures { PlaceAtPromise text.now at result }
 {
-    let n = text.len();
-    if n <= 6 {
-        return Step::Stop(8, at);
+    let refused = Refusal::NoPlaceAt(at);
+    let code = codec::digits_at(text, at, 6).ok_or(refused)?;
+    let mark = *text.get(at + 6).ok_or(refused)?;
+    if mark != 45 && mark != 43 {
+        return Err(refused);
     }
-    if n - 6 <= at {
-        return Step::Stop(8, at);
-    }
-    let Number::Is(code) = codec::digits_at(text, at, 6) else {
-        return Step::Stop(8, at);
-    };
-    let e = at + 6;
-    if text[e] == 45 {
-        return Step::Got(code, e + 1);
-    }
-    if text[e] == 43 {
-        return Step::Got(code, e + 1);
-    }
-    Step::Stop(8, at)
+    Ok((code, at + 7))
 }
 
 // The minutes of the duration that stands there with its mark, or none.
-pub fn minutes_at(text: &[u8], at: usize) -> Number
+pub fn minutes_at(text: &[u8], at: usize) -> Option<u32>
     ensures { MinutesAtPromise text.now at result }
 {
-    let n = text.len();
-    if n <= 4 {
-        return Number::NoNumber;
+    let h = codec::digits_at(text, at, 2)?;
+    let m = codec::digits_at(text, at + 2, 2)?;
+    let mark = *text.get(at + 4)?;
+    if mark != 45 || !header::is_duration_of(h, m) {
+        return None;
     }
-    if n - 4 <= at {
-        return Number::NoNumber;
-    }
-    let Number::Is(h) = codec::digits_at(text, at, 2) else {
-        return Number::NoNumber;
-    };
-    let Number::Is(m) = codec::digits_at(text, at + 2, 2) else {
-        return Number::NoNumber;
-    };
-    if !header::is_duration_of(h, m) {
-        return Number::NoNumber;
-    }
-    if text[at + 4] != 45 {
-        return Number::NoNumber;
-    }
-    Number::Is(h * 60 + m)
+    Some(h * 60 + m)
 }
 
-// Day, hour and minute of the issue that stands there with its mark, or none.
-pub fn issue_at(text: &[u8], at: usize) -> Issue
+// The issue that stands there with its mark, or none.
+pub fn issue_at(text: &[u8], at: usize) -> Option<Issue>
     ensures { IssueAtPromise text.now at result }
 {
-    let n = text.len();
-    if n <= 7 {
-        return Issue::NoIssue;
+    let day = codec::digits_at(text, at, 3)?;
+    let hour = codec::digits_at(text, at + 3, 2)?;
+    let minute = codec::digits_at(text, at + 5, 2)?;
+    let mark = *text.get(at + 7)?;
+    if mark != 45 || !header::is_issue(day, hour, minute) {
+        return None;
     }
-    if n - 7 <= at {
-        return Issue::NoIssue;
-    }
-    let Number::Is(d) = codec::digits_at(text, at, 3) else {
-        return Issue::NoIssue;
-    };
-    let Number::Is(h) = codec::digits_at(text, at + 3, 2) else {
-        return Issue::NoIssue;
-    };
-    let Number::Is(m) = codec::digits_at(text, at + 5, 2) else {
-        return Issue::NoIssue;
-    };
-    if !header::is_issue(d, h, m) {
-        return Issue::NoIssue;
-    }
-    if text[at + 7] != 45 {
-        return Issue::NoIssue;
-    }
-    Issue::When(d, h, m)
+    Some(Issue { day, hour, minute })
 }

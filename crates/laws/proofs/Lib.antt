@@ -22,3 +22,4 @@ pub mod Halving
 pub mod OrZero
 pub mod Plain
 pub mod Next
+pub mod Handed

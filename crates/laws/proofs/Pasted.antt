@@ -7,6 +7,7 @@ use native.Mathlib.Numerals.{add-one}
 use native.Mathlib.Omega.{arith}
 use lib.ListN.{length, take, drop, set, length-append, length-drop, take-append-drop, length-set}
 use lib.Seq.{length-take-le, take_at, drop_at, drop-drop, set_split, take-set-le, drop-set-lt, drop-cons, get_or-set_same}
+use borrow.Rule.Slice.PartMut.{put_mid}
 use Rattle.laws.specs.Space.{pasted}
 
 pub pasted_nil : (d : List ℕ) (at : ℕ) → pasted d at [] ≡ d
@@ -59,6 +60,11 @@ pub record Todo (d₀ whole d : List ℕ) (at : ℕ) (s : List ℕ) : Type 0 whe
 
 pub todo : (d : List ℕ) (at : ℕ) (s : List ℕ) → at + length s ≤ length d → Todo d (pasted d at s) d at s
 todo d at s h = record { len = refl; room = h; same = refl }
+
+-- a part that was written over, as a goal shows it
+pub pasted_mid : (d : List ℕ) (at k : ℕ) (s r : List ℕ) → k ≡ length s → r ≡ s → put_mid at k d r ≡ pasted d at s
+unfolding pasted
+pasted_mid d at k s r n e = rw (n, e) (ap (λ (l : List ℕ). take at d ++ (s ++ l)) (drop-drop (length s) at d))
 
 module _ (d₀ whole d : List ℕ) (at : ℕ) (s : List ℕ) (t : Todo d₀ whole d at s) where
   pub step : (x r d' : List ℕ) (at' : ℕ) → s ≡ x ++ r → d' ≡ pasted d at x → at' ≡ at + length x → Todo d₀ whole d' at' r

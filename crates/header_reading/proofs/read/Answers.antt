@@ -1,20 +1,12 @@
--- A text that is too long is refused; where the front stops, its number and index are the answer; else the rest decides.
-use Prim.Native.Nat.{◌≤◌}
+-- A text that is too long is refused; where the front stops, its refusal is the answer; else the rest decides.
 use native.Mathlib.Omega.{arith}
-use lib.ListN.{length}
+use Rattle.laws.proofs.Handed.{handed}
 use Rattle.header_reading.proofs.Answering.{too_long, ended}
 use Rattle.header_reading.proofs.read.Goals as goal
 
 pub returns-then-text-gt252 : goal.returns-then-text-gt252
-returns-then-text-gt252 c = rw c.refused.ensures (too_long c.args.text.now (omega arith))
+returns-then-text-gt252 c = too_long c.args.text.now (omega arith)
 
-pub signed-requires : goal.signed-requires
-signed-requires c =
-    (omega arith, rw c.in-Read.is at c.front_of-front.ensures)
-
-pub returns-in-Fault : goal.returns-in-Fault
-returns-in-Fault c =
-    let text = c.args.text.now in
-    let short : length text ≤ 252 = omega arith in
-    let front = rw c.in-Fault.is at c.front_of-front.ensures in
-    rw c.refused-in-Fault.ensures (ended text c.front_of-front.new.codes short _ _ front)
+pub returns-in_err-front : goal.returns-in_err-front
+returns-in_err-front c =
+    rw (handed c.from_residual.result _ c.from_residual.ensures.1) (ended c.args.text.now c.front_of.new.codes (omega arith) _ c.in_err-front.ensures)
