@@ -21,11 +21,14 @@ use Rattle.book_rules.specs.Subscription.{Sub}
 use Rattle.book_rules.specs.Afresh.{subs}
 use Rattle.report.specs.Hits.{hits_of}
 use Rattle.report.specs.Report.{Full, alert_says, list_says, report_says}
-use Rattle.report.specs.Answers.{verdict_of, summary_in}
+use Rattle.std.specs.Prelude.{Result, Ok}
+use Rattle.refusals.specs.Refusals.{says, said}
+use Rattle.refusals.specs.declared.Refusal.{Refusal}
+use Rattle.refusals.proofs.Said.{next_refused, leaves_refused}
+use Rattle.report.specs.Answers.{answer_says}
 use Rattle.report.specs.Promise.{writes_hits}
 use Rattle.report.specs.declared.Summary.{Summary}
-use Rattle.report.specs.declared.ReportVerdict.TheVariants.{Granted, Refused, RefusedAt}
-use Rattle.report.proofs.Given.{given, count_given}
+use Rattle.report.proofs.Given.{given, count_given, answer_ok, answer_err}
 use Rattle.c_answers.specs.Answer.{in_halves}
 use Rattle.c_words.specs.Words.{summary_words}
 use Rattle.c_words.specs.Says.{enough, how_many_hits, summary_says}
@@ -34,23 +37,11 @@ use Rattle.c_words.specs.Promise.{ReportWordsPromise}
 
 -- ---- with no summary to give
 
-pub blind_granted : (s : Said Full) (r : ℕ) → verdict_of s ≡ Granted → r ≡ in_halves (refused 13) → r ≡ in_halves (without_summary s)
-blind_granted (granted g) r v e = e
-blind_granted (refused n) r v e = clash cc
-blind_granted (refused_at n i) r v e = clash cc
+pub blind_granted : (o : Said Full) (s : Summary) → granted s ≡ answer_says o → refused 13 ≡ without_summary o
+blind_granted o s e = let g = answer_ok o s e in sym (ap without_summary g.1)
 
-pub blind_refused : (s : Said Full) (r n : ℕ) → verdict_of s ≡ Refused n → r ≡ in_halves (refused n) → r ≡ in_halves (without_summary s)
-blind_refused (granted g) r n v e = clash cc
-blind_refused (refused m) r n v e = let k : m ≡ n = cc in e ∙ ap (λ (x : ℕ). in_halves (refused x)) (sym k)
-blind_refused (refused_at m i) r n v e = clash cc
-
-pub blind_refused_at : (s : Said Full) (r n i : ℕ) → verdict_of s ≡ RefusedAt n i → r ≡ in_halves (refused_at n i) → r ≡ in_halves (without_summary s)
-blind_refused_at (granted g) r n i v e = clash cc
-blind_refused_at (refused m) r n i v e = clash cc
-blind_refused_at (refused_at m j) r n i v e =
-    let k : m ≡ n = cc in
-    let l : j ≡ i = cc in
-    e ∙ sym (λ q. in_halves (refused_at (k q) (l q)))
+pub blind_refused : (o : Said Full) (e : Refusal) → says e ≡ answer_says o → says e ≡ without_summary o
+blind_refused o e p = sym (ap without_summary (answer_err o e p) ∙ next_refused e (λ g. refused 13))
 
 -- the room lent for hits has then no say
 last_row : (b c : Bool) (g : Full) → without_summary (choose b (refused 13) (granted g)) ≡ without_summary (choose c (refused 13) (granted g))
@@ -92,57 +83,34 @@ any_room book client text at m n =
 
 -- ---- with a summary
 
-module _ (book : List ℕ) (client : ℕ) (text : List ℕ) (at : Clock) (room : ℕ) where
-  abbrev says : Said Full
-  says = report_says book client text at room
+module _ (book : List ℕ) (client : ℕ) (text : List ℕ) (at : Clock) (room : ℕ) (d h : List ℕ) where
+  abbrev whole : Said Full
+  whole = report_says book client text at room
 
-  pub both_granted : (d h left rest : List ℕ) (r : ℕ) (s : Summary) → verdict_of says ≡ Granted → s ≡ summary_in says
-      → r ≡ in_halves (granted s.hits) → left ≡ pasted d 0 (summary_words s) → rest ≡ leaves writes_hits says h → ReportsWords says d h r left rest
-  both_granted d h left rest r s v p e l w = go says refl v p w
-    where
-      go : (o : Said Full) → says ≡ o → verdict_of o ≡ Granted → s ≡ summary_in o → rest ≡ leaves writes_hits says h → ReportsWords says d h r left rest
-      go (refused n) q v p w = clash cc
-      go (refused_at n i) q v p w = clash cc
-      go (granted g) q v p w =
-          let k = given book client text at room g q in
-          let n : s.hits ≡ length g.hits = ap (λ (x : Summary). x.hits) p ∙ count_given book client text at room g k in
-          record {
-            says = e ∙ ap (λ (m : ℕ). in_halves (granted m)) n ∙ sym (ap (λ (x : Said Full). in_halves (how_many_hits x)) q);
-            summary = l ∙ ap (λ (x : Summary). pasted d 0 (summary_words x)) p
-                ∙ sym (ap (λ (x : Said Full). leaves (λ g out. pasted out 0 (summary_words g.summary)) x d) q);
-            hits = w;
-          }
+  pub both_granted : (left rest : List ℕ) (s : Summary) → granted s ≡ answer_says whole → left ≡ pasted d 0 (summary_words s) → rest ≡ leaves writes_hits whole h
+      → ReportsWords whole d h (Ok s.hits) left rest
+  both_granted left rest s v l w =
+      let g = answer_ok whole s v in
+      let q = g.1 in
+      let k = given book client text at room g.0 q in
+      let n : s.hits ≡ length g.0.hits = ap (λ (x : Summary). x.hits) (sym g.2) ∙ count_given book client text at room g.0 k in
+      record {
+        says = ap granted n ∙ sym (ap how_many_hits q);
+        summary = l ∙ ap (λ (x : Summary). pasted d 0 (summary_words x)) (sym g.2)
+            ∙ sym (ap (λ (x : Said Full). leaves (λ g out. pasted out 0 (summary_words g.summary)) x d) q);
+        hits = w;
+      }
 
-  pub both_refused : (d h rest : List ℕ) (r n : ℕ) → verdict_of says ≡ Refused n → r ≡ in_halves (refused n) → rest ≡ leaves writes_hits says h
-      → ReportsWords says d h r d rest
-  both_refused d h rest r n v e w = go says refl v w
-    where
-      go : (o : Said Full) → says ≡ o → verdict_of o ≡ Refused n → rest ≡ leaves writes_hits says h → ReportsWords says d h r d rest
-      go (granted g) q v w = clash cc
-      go (refused_at m i) q v w = clash cc
-      go (refused m) q v w =
-          let k : m ≡ n = cc in
-          record {
-            says = e ∙ ap (λ (x : ℕ). in_halves (refused x)) (sym k) ∙ sym (ap (λ (x : Said Full). in_halves (how_many_hits x)) q);
-            summary = sym (ap (λ (x : Said Full). leaves (λ g out. pasted out 0 (summary_words g.summary)) x d) q);
-            hits = w;
-          }
-
-  pub both_refused_at : (d h rest : List ℕ) (r n i : ℕ) → verdict_of says ≡ RefusedAt n i → r ≡ in_halves (refused_at n i) → rest ≡ leaves writes_hits says h
-      → ReportsWords says d h r d rest
-  both_refused_at d h rest r n i v e w = go says refl v w
-    where
-      go : (o : Said Full) → says ≡ o → verdict_of o ≡ RefusedAt n i → rest ≡ leaves writes_hits says h → ReportsWords says d h r d rest
-      go (granted g) q v w = clash cc
-      go (refused m) q v w = clash cc
-      go (refused_at m j) q v w =
-          let k : m ≡ n = cc in
-          let l : j ≡ i = cc in
-          record {
-            says = e ∙ sym (λ z. in_halves (refused_at (k z) (l z))) ∙ sym (ap (λ (x : Said Full). in_halves (how_many_hits x)) q);
-            summary = sym (ap (λ (x : Said Full). leaves (λ g out. pasted out 0 (summary_words g.summary)) x d) q);
-            hits = w;
-          }
+  pub both_refused : (rest : List ℕ) (e : Refusal) (r : Result ℕ Refusal) → says e ≡ answer_says whole → said r ≡ says e → rest ≡ leaves writes_hits whole h
+      → ReportsWords whole d h r d rest
+  both_refused rest e r v p w =
+      let q = answer_err whole e v in
+      record {
+        says = p ∙ sym (ap how_many_hits q ∙ next_refused e (λ g. granted (length g.hits)));
+        summary = sym (ap (λ (x : Said Full). leaves (λ g out. pasted out 0 (summary_words g.summary)) x d) q
+            ∙ leaves_refused (λ g out. pasted out 0 (summary_words g.summary)) e d);
+        hits = w;
+      }
 
 -- ---- by the words lent for the summary
 
@@ -172,17 +140,17 @@ module _ (book : List ℕ) (client : ℕ) (text : List ℕ) (at : Clock) (words 
 
 -- ---- the promise
 
-module _ (book : List ℕ) (client : ℕ) (text : List ℕ) (at : Clock) (d h : List ℕ) (r : ℕ) where
-  pub few_promise : length d < 16 → r ≡ in_halves (without_summary (report_says book client text at 1)) → ReportWordsPromise book client text at d h r d h
+module _ (book : List ℕ) (client : ℕ) (text : List ℕ) (at : Clock) (d h : List ℕ) (r : ℕ) (o : Result ℕ Refusal) (halves : r ≡ in_halves (said o)) where
+  pub few_promise : length d < 16 → said o ≡ without_summary (report_says book client text at 1) → ReportWordsPromise book client text at d h r d h
   few_promise k e = record {
-    says = e ∙ sym (ap in_halves (too_few book client text at (length d) (length h) k));
+    says = halves ∙ ap in_halves (e ∙ sym (too_few book client text at (length d) (length h) k));
     summary = too_few_leaves book client text at (length d) (length h) (λ g out. pasted out 0 (summary_words g.summary)) d k;
     hits = too_few_leaves book client text at (length d) (length h) writes_hits h k;
   }
 
-  pub all_promise : (left rest : List ℕ) → 16 ≤ length d → ReportsWords (report_says book client text at (length h)) d h r left rest
+  pub all_promise : (left rest : List ℕ) → 16 ≤ length d → ReportsWords (report_says book client text at (length h)) d h o left rest
       → ReportWordsPromise book client text at d h r left rest
   all_promise left rest k e =
-      let m : ReportsWords (summary_says book client text at (length d) (length h)) d h r left rest =
-      subst (λ (s : Said Full). ReportsWords s d h r left rest) (sym (as_many book client text at (length d) (length h) k)) e in
-      record { says = m.says; summary = m.summary; hits = m.hits }
+      let m : ReportsWords (summary_says book client text at (length d) (length h)) d h o left rest =
+      subst (λ (s : Said Full). ReportsWords s d h o left rest) (sym (as_many book client text at (length d) (length h) k)) e in
+      record { says = halves ∙ ap in_halves m.says; summary = m.summary; hits = m.hits }

@@ -4,40 +4,37 @@
 ghost use Rattle.std.specs.Prelude.{◌≡◌, ◌+◌, ◌≤◌, length};
 ghost use Rattle.laws.specs.Space.{pasted};
 ghost use Rattle.report.specs.Report.{report_says};
-ghost use Rattle.c_answers.specs.Answer.{in_halves};
+ghost use Rattle.refusals.specs.Refusals.{said};
 ghost use Rattle.c_words.specs.Words.{front_words, back_words, byte_of, bytes_at, places_in, fields_in, phase_word, rest_words, summary_words};
-ghost use Rattle.c_words.specs.Steps.{Gives, without_summary, ReportsWords};
+ghost use Rattle.c_words.specs.Steps.{Gives, ReadsFields, WritesFields, without_summary, ReportsWords};
 ghost use Rattle.c_words.specs.Promise.{ReadWordsPromise, WriteWordsPromise, ReportWordsPromise};
 
-use c_answers::{answer, cap, wrote, yes};
+use c_answers::{cap, told, yes};
 use clock::{Clock, Phase};
 use header::Fields;
-use report::{ReportVerdict, Summary};
+use refusals::Refusal;
+use report::Summary;
 
 // ---- words written
-
-// Some bytes at index at, each as a word.
-fn put_bytes(out: &mut [u32], at: usize, src: &[u8])
-    requires { at + length src.now ≤ length out.old }
-    ensures { out.new ≡ pasted out.old at src.now }
-{
-    let mut k: usize = 0;
-    while k < src.len() {
-        out[at + k] = src[k] as u32;
-        k += 1;
-    }
-}
 
 // Some words at index at.
 fn put_words(out: &mut [u32], at: usize, src: &[u32])
     requires { at + length src.now ≤ length out.old }
     ensures { out.new ≡ pasted out.old at src.now }
 {
-    let mut k: usize = 0;
-    while k < src.len() {
-        out[at + k] = src[k];
-        k += 1;
+    let e = at + src.len();
+    out[at..e].copy_from_slice(src);
+}
+
+// Some bytes, each as a word.
+fn wide<const N: usize>(bytes: &[u8; N]) -> [u32; N]
+    ensures { result ≡ bytes.now }
+{
+    let mut words = [0u32; N];
+    for (k, w) in words.iter_mut().enumerate() {
+        *w = u32::from(bytes[k]);
     }
+    words
 }
 
 // Origin, event and the five numbers.
@@ -45,11 +42,9 @@ fn put_front(out: &mut [u32], f: Fields)
     requires { (11 ≤ length out.old) × (f.count ≤ 31) }
     ensures { (out.new ≡ pasted out.old 0 (front_words f)) × (length (front_words f) ≡ 11) }
 {
-    let origin = f.origin;
-    let event = f.event;
     let numbers = [f.count as u32, f.duration, f.day, f.hour, f.minute];
-    put_bytes(out, 0, &origin);
-    put_bytes(out, 3, &event);
+    put_words(out, 0, &wide(&f.origin));
+    put_words(out, 3, &wide(&f.event));
     put_words(out, 6, &numbers);
 }
 
@@ -58,23 +53,21 @@ fn put_back(out: &mut [u32], f: Fields)
     requires { 50 ≤ length out.old }
     ensures { (out.new ≡ pasted out.old 11 (back_words f)) × (length (back_words f) ≡ 39) }
 {
-    let sender = f.sender;
-    let places = f.places;
-    put_bytes(out, 11, &sender);
-    put_words(out, 19, &places);
+    put_words(out, 11, &wide(&f.sender));
+    put_words(out, 19, &f.places);
 }
 
 // The fields as words, where there is room for them.
-fn give(f: Fields, out: &mut [u32]) -> u64
+fn give(f: Fields, out: &mut [u32]) -> Result<usize, Refusal>
     requires { f.count ≤ 31 }
     ensures { Gives f out.old result out.new }
 {
     if out.len() < 50 {
-        return answer(13, 0);
+        return Err(Refusal::NoRoom);
     }
     put_front(out, f);
     put_back(out, f);
-    answer(0, f.count)
+    Ok(f.count)
 }
 
 // ---- words read
@@ -83,77 +76,70 @@ fn give(f: Fields, out: &mut [u32]) -> u64
 fn byte_of(w: u32) -> u8
     ensures { result ≡ byte_of w }
 {
-    if w < 256 { w as u8 } else { 0 }
+    u8::try_from(w).unwrap_or(0)
 }
 
-fn three(w: &[u32], at: usize) -> [u8; 3]
-    requires { at + 3 ≤ length w.now }
-    ensures { result ≡ bytes_at 3 at w.now }
+// Some bytes, each from its word.
+fn bytes_at<const N: usize>(w: &[u32; 50], at: usize) -> [u8; N]
+    requires { at + N ≤ 50 }
+    ensures { result ≡ bytes_at N at w.now }
 {
-    [byte_of(w[at]), byte_of(w[at + 1]), byte_of(w[at + 2])]
-}
-
-fn eight(w: &[u32], at: usize) -> [u8; 8]
-    requires { at + 8 ≤ length w.now }
-    ensures { result ≡ bytes_at 8 at w.now }
-{
-    let mut bytes = [0u8; 8];
-    let mut k: usize = 0;
-    while k < 8 {
-        bytes[k] = byte_of(w[at + k]);
-        k += 1;
+    let mut bytes = [0u8; N];
+    for (k, b) in bytes.iter_mut().enumerate() {
+        *b = byte_of(w[at + k]);
     }
     bytes
 }
 
 // The 31 words of places.
-fn places_in(w: &[u32]) -> [u32; 31]
-    requires { 50 ≤ length w.now }
+fn places_in(w: &[u32; 50]) -> [u32; 31]
     ensures { result ≡ places_in w.now }
 {
     let mut places = [0u32; 31];
-    let mut k: usize = 0;
-    while k < 31 {
-        places[k] = w[19 + k];
-        k += 1;
-    }
+    places.copy_from_slice(&w[19..]);
     places
 }
 
-fn fields_in(w: &[u32]) -> Fields
-    requires { 50 ≤ length w.now }
+fn fields_in(w: &[u32; 50]) -> Fields
     ensures { result ≡ fields_in w.now }
 {
-    let origin = three(w, 0);
-    let event = three(w, 3);
-    let places = places_in(w);
-    let sender = eight(w, 11);
     Fields {
-        origin: origin,
-        event: event,
-        places: places,
+        origin: bytes_at(w, 0),
+        event: bytes_at(w, 3),
+        places: places_in(w),
         count: w[6] as usize,
         duration: w[7],
         day: w[8],
         hour: w[9],
         minute: w[10],
-        sender: sender,
+        sender: bytes_at(w, 11),
     }
 }
 
 // ---- header texts
+
+// The fields of a text as words, and how many places it has.
+fn read_fields(text: &[u8], fields: &mut [u32]) -> Result<usize, Refusal>
+    ensures { ReadsFields text.now fields.old result fields.new }
+{
+    let read = header_reading::read(text)?;
+    give(read, fields)
+}
 
 // Reads a header text: its count of places, and its fields as 50 words over the front; or reading's number and index, or 13, and
 // nothing is written.
 pub fn read_words(text: &[u8], fields: &mut [u32]) -> u64
     ensures { ReadWordsPromise text.now fields.old result fields.new }
 {
-    let read = header_reading::read(text);
-    let verdict = read.verdict;
-    match verdict {
-        header::ReadVerdict::Reads => give(read.fields, fields),
-        header::ReadVerdict::StopsAt(n, i) => answer(n, i),
-    }
+    told(read_fields(text, fields))
+}
+
+// The text of fields that are given as words, and its length.
+fn write_fields(fields: &[u32], out: &mut [u8]) -> Result<usize, Refusal>
+    ensures { WritesFields fields.now out.old result out.new }
+{
+    let words = fields.first_chunk::<50>().ok_or(Refusal::NoRoom)?;
+    header_writing::write(fields_in(words), out)
 }
 
 // Writes a header text from its fields, given as 50 words: its length, and the text over the front; or 13 or writing's number, and
@@ -161,11 +147,7 @@ pub fn read_words(text: &[u8], fields: &mut [u32]) -> u64
 pub fn write_words(fields: &[u32], out: &mut [u8]) -> u64
     ensures { WriteWordsPromise fields.now out.old result out.new }
 {
-    if fields.len() < 50 {
-        return answer(13, 0);
-    }
-    let f = fields_in(fields);
-    wrote(header_writing::write(f, out))
+    told(write_fields(fields, out))
 }
 
 // ---- the report
@@ -197,30 +179,25 @@ fn put_summary(out: &mut [u32], s: Summary)
     let times = s.times;
     let a = times.issued;
     let b = times.until;
-    let event = s.event;
     let stamps = [
         a.month, a.day, a.hour, a.minute, b.month, b.day, b.hour, b.minute,
     ];
     let rest = rest_of(s);
     put_words(out, 0, &stamps);
-    put_bytes(out, 8, &event);
+    put_words(out, 8, &wide(&s.event));
     put_words(out, 11, &rest);
 }
 
 // What comes before 13, or 13: no summary can be given. Nothing lent is handed on, so nothing is written.
-fn report_blind(book: &[u32], client: u32, header: &[u8], at: Clock) -> u64
-    ensures { result ≡ in_halves (without_summary (report_says book.now client header.now at 1)) }
+fn report_blind(book: &[u32], client: u32, header: &[u8], at: Clock) -> Result<usize, Refusal>
+    ensures { said result ≡ without_summary (report_says book.now client header.now at 1) }
 {
     let mut none = [0u32; 1];
-    let read = report::report(book, client, header, at, &mut none);
-    let verdict = read.verdict;
-    match verdict {
-        ReportVerdict::Granted => answer(13, 0),
-        ReportVerdict::Refused(n) => answer(n, 0),
-        ReportVerdict::RefusedAt(n, i) => answer(n, i),
-    }
+    report::report(book, client, header, at, &mut none)?;
+    Err(Refusal::NoRoom)
 }
 
+// A report with its summary as words, and its count of hits.
 fn report_both(
     book: &[u32],
     client: u32,
@@ -228,21 +205,13 @@ fn report_both(
     at: Clock,
     summary: &mut [u32],
     hits: &mut [u32],
-) -> u64
+) -> Result<usize, Refusal>
     requires { 16 ≤ length summary.old }
     ensures { ReportsWords (report_says book.now client header.now at (length hits.old)) summary.old hits.old result summary.new hits.new }
 {
-    let read = report::report(book, client, header, at, hits);
-    let verdict = read.verdict;
-    match verdict {
-        ReportVerdict::Granted => {
-            let s = read.summary;
-            put_summary(summary, s);
-            answer(0, s.hits)
-        }
-        ReportVerdict::Refused(n) => answer(n, 0),
-        ReportVerdict::RefusedAt(n, i) => answer(n, i),
-    }
+    let s = report::report(book, client, header, at, hits)?;
+    put_summary(summary, s);
+    Ok(s.hits)
 }
 
 // One client's report on a header, by a clock: its count of hits, the summary as 16 words and two words a hit, each over the front
@@ -258,7 +227,7 @@ pub fn report_words(
     ensures { ReportWordsPromise book.now client header.now at summary.old hits.old result summary.new hits.new }
 {
     if summary.len() < 16 {
-        return report_blind(book, client, header, at);
+        return told(report_blind(book, client, header, at));
     }
-    report_both(book, client, header, at, summary, hits)
+    told(report_both(book, client, header, at, summary, hits))
 }

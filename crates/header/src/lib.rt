@@ -36,28 +36,14 @@ fn sender_byte(b: u8) -> bool
 pub fn is_event(b: &[u8]) -> bool
     ensures { IsEventPromise b.now result }
 {
-    let mut k: usize = 0;
-    while k < b.len() {
-        if !codec::between(65, 90, b[k]) {
-            return false;
-        }
-        k += 1;
-    }
-    true
+    b.iter().all(|x| codec::between(65, 90, *x))
 }
 
 // Whether bytes are all ones that a sender may have.
 pub fn is_sender(b: &[u8]) -> bool
     ensures { IsSenderPromise b.now result }
 {
-    let mut k: usize = 0;
-    while k < b.len() {
-        if !sender_byte(b[k]) {
-            return false;
-        }
-        k += 1;
-    }
-    true
+    b.iter().all(|x| sender_byte(*x))
 }
 
 // Whether bytes are one of the four origins.

@@ -8,19 +8,22 @@ use lib.ListN.{length, take, length-append}
 use lib.Seq.{length-take-le}
 use lib.Dec.{ltb}
 use borrow.Author.Tests.{lt-ltb, le-ltb, lt-leb, le-leb}
+use Rattle.std.specs.Prelude.{Ok, Err}
 use Rattle.laws.specs.Order.{Said, granted, refused, ◌when◌, in_order, none, more}
 use Rattle.laws.specs.Lists.{every}
 use Rattle.laws.specs.Space.{pasted, leaves}
 use Rattle.laws.proofs.Decimal.{length_dig}
+use Rattle.refusals.specs.Refusals.{says}
+use Rattle.refusals.specs.declared.Refusal.{Refusal}
+use Rattle.refusals.proofs.Said.{leaves_refused}
 use Rattle.codec.specs.Codec.{field, text_list}
-use Rattle.header.specs.Header.{dash, plus, start, origin, event, place, duration, issue, sender, is_duration, front, header, text_of, WellFormed}
+use Rattle.header.specs.Header.{dash, plus, start, is_origin, is_event, is_sender, origin, event, place, duration, issue, sender, is_duration, front, header, text_of, WellFormed}
 use Rattle.header.specs.Writing.{write_says}
-use Rattle.header.specs.Answers.{counted, alert_in, said_wrote}
-use Rattle.header.specs.Promise.{WritePromise}
+use Rattle.header.specs.Answers.{counted, alert_in}
+use Rattle.header.specs.Promise.{WritePromise, IsOriginPromise, IsEventPromise, IsSenderPromise, IsDurationPromise, IsIssuePromise}
 use Rattle.header_writing.specs.Steps.{codes_ok, places_text, duration_text, issue_text, opening_text, closing_text, all_text}
 use Rattle.header.specs.declared.Fields.{Fields}
-use Rattle.header.specs.declared.Wrote.{Wrote}
-use Rattle.header.specs.declared.Wrote.TheVariants.{Written, Refused}
+use Rattle.header.proofs.Allowed.{bytes_ok, issue_ok}
 use Rattle.header.proofs.Round.{text_length}
 use Rattle.header.proofs.Says.{counted_length, counted_take}
 use Rattle.header.proofs.Exact.{grants}
@@ -37,6 +40,27 @@ pub codes_some : (codes : List ℕ) (n : ℕ) → 1 ≤ n → n ≤ 31 → lengt
 codes_some codes n h k l =
     ap codes_ok (counted_take codes n (omega arith))
     ∙ simp (length-take-le n codes (omega arith), le-leb 1 n h, le-leb n 31 k)
+
+-- ---- each field that was asked
+
+module _ (f : Fields) {r b : Bool} where
+  pub ok_origin : 3 ≡ length f.origin → IsOriginPromise f.origin r → r ≡ b → origin.ok f.origin ≡ b
+  ok_origin l p e = bytes_ok is_origin 3 f.origin l ∙ sym p.says ∙ e
+
+  pub ok_event : 3 ≡ length f.event → IsEventPromise f.event r → r ≡ b → event.ok f.event ≡ b
+  ok_event l p e = bytes_ok is_event 3 f.event l ∙ sym p.says ∙ e
+
+  pub ok_places : r ≡ codes_ok (counted f.places f.count) → r ≡ b → codes_ok (counted f.places f.count) ≡ b
+  ok_places p e = sym p ∙ e
+
+  pub ok_duration : IsDurationPromise f.duration r → r ≡ b → is_duration f.duration ≡ b
+  ok_duration p e = sym p.says ∙ e
+
+  pub ok_issue : IsIssuePromise f.day f.hour f.minute r → r ≡ b → issue.ok (f.day, (f.hour, f.minute)) ≡ b
+  ok_issue p e = issue_ok f.day f.hour f.minute ∙ sym p.says ∙ e
+
+  pub ok_sender : 8 ≡ length f.sender → IsSenderPromise f.sender r → r ≡ b → sender.ok f.sender ≡ b
+  ok_sender l p e = bytes_ok is_sender 8 f.sender l ∙ sym p.says ∙ e
 
 -- ---- the rows, by the seven tests
 
@@ -99,12 +123,12 @@ module _ (f : Fields) (w : Fine f) where
 
 -- ---- granted only where so many places stand and there is room
 
-pub granted_size : (f : Fields) (room n : ℕ) → granted n ≡ write_says (alert_in f) room → (1 ≤ f.count) × ((f.count ≤ 31) × (35 + 7 * f.count ≤ room))
+pub granted_size : (f : Fields) (room n : ℕ) → granted n ≡ write_says (alert_in f) room → (f.count ≤ 31) × (35 + 7 * f.count ≤ room)
 granted_size f room n e =
     let g = grants (alert_in f) room n (sym e) in
     let t = text_length (alert_in f) g.fine in
     let l : length (counted f.places f.count) ≡ f.count = counted_length f.places f.count in
-    (omega (arith, t.1), (omega (arith, t.2), omega (arith, t.0, g.long, g.room)))
+    (omega (arith, t.2), omega (arith, t.0, g.long, g.room))
 
 -- ---- what is left
 
@@ -123,14 +147,13 @@ all_text_is f h =
     regroup a b c (text_list place dash plus (take f.count f.places)) x y z
     ∙ ap (λ (ps : List ℕ). (a ++ (b ++ (c ++ (text_list place dash plus ps ++ (x ++ y))))) ++ z) (sym (counted_take f.places f.count h))
 
-pub left_no : (f : Fields) (d : List ℕ) (r : Wrote) (m : ℕ) → said_wrote r ≡ write_says (alert_in f) (length d) → r ≡ Refused m → WritePromise f d d r
-left_no f d r m e q = record {
-  says = e;
-  space = ap (λ (s : Said ℕ). leaves (λ n out. pasted out 0 (text_of (alert_in f))) s d) (sym (ap said_wrote q) ∙ e);
-}
+pub left_no : (f : Fields) (d : List ℕ) (e : Refusal) → says e ≡ write_says (alert_in f) (length d) → WritePromise f d d (Err e)
+left_no f d e h =
+    let put : ℕ → List ℕ → List ℕ = λ n out. pasted out 0 (text_of (alert_in f)) in
+    record { says = h; space = sym (leaves_refused put e d) ∙ ap (λ (s : Said ℕ). leaves put s d) h }
 
 pub left_yes : (f : Fields) (d d' : List ℕ) (n : ℕ) → f.count ≤ length f.places → granted n ≡ write_says (alert_in f) (length d)
-    → d' ≡ pasted d 0 (all_text f) → WritePromise f d d' (Written n)
+    → d' ≡ pasted d 0 (all_text f) → WritePromise f d d' (Ok n)
 left_yes f d d' n h e p = record {
   says = e;
   space = p ∙ ap (pasted d 0) (all_text_is f h) ∙ ap (λ (s : Said ℕ). leaves (λ n out. pasted out 0 (text_of (alert_in f))) s d) e;

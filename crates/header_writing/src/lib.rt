@@ -1,70 +1,57 @@
 // Writes a header text.
 #![tactic(auto)]
 
-ghost use Rattle.std.specs.Prelude.{◌≡◌, ◌+◌, ◌*◌, ◌≤◌, ◌∷◌, [], ◌++◌, length, take};
+ghost use Rattle.std.specs.Prelude.{◌≡◌, ◌+◌, ◌*◌, ◌≤◌, ◌∷◌, [], ◌++◌, length};
 ghost use Rattle.laws.specs.Numbers.{dig};
 ghost use Rattle.laws.specs.Space.{pasted};
+ghost use Rattle.refusals.specs.Refusals.{said};
 ghost use Rattle.header.specs.Writing.{write_says};
-ghost use Rattle.header.specs.Answers.{counted, alert_in, said_wrote};
+ghost use Rattle.header.specs.Answers.{counted, alert_in};
 ghost use Rattle.header.specs.Promise.{WritePromise};
 ghost use Rattle.header_writing.specs.Steps.{codes_ok, places_text, duration_text, issue_text, opening_text, closing_text, all_text};
 
-use header::{Fields, Wrote};
+use header::Fields;
+use refusals::Refusal;
 
 // First what is answered, then the bytes.
 
-fn codes_ok(codes: &[u32], count: usize) -> bool
-    requires { length codes.now ≡ 31 }
+// Whether so many of the codes can stand in a text.
+fn codes_ok(codes: &[u32; 31], count: usize) -> bool
     ensures { result ≡ codes_ok (counted codes.now count) }
 {
-    if count < 1 {
-        return false;
+    match codes.get(..count) {
+        Some(standing) => !standing.is_empty() && standing.iter().all(|code| *code < 1000000),
+        None => false,
     }
-    if 31 < count {
-        return false;
-    }
-    let mut k: usize = 0;
-    while k < count {
-        if 999999 < codes[k] {
-            return false;
-        }
-        k += 1;
-    }
-    true
 }
 
-// The codes are those of the fields, lent once for all that look at them.
-fn judge(f: Fields, codes: &[u32], room: usize) -> Wrote
-    requires { (codes.now ≡ f.places) × (length codes.now ≡ 31) }
-    ensures { said_wrote result ≡ write_says (alert_in f) room }
+// How many bytes are written, or why none.
+fn judge(f: &Fields, room: usize) -> Result<usize, Refusal>
+    ensures { said result ≡ write_says (alert_in f.now) room }
 {
-    let origin = f.origin;
-    if !header::is_origin(&origin) {
-        return Wrote::Refused(6);
+    if !header::is_origin(&f.origin) {
+        return Err(Refusal::BadOrigin);
     }
-    let event = f.event;
-    if !header::is_event(&event) {
-        return Wrote::Refused(7);
+    if !header::is_event(&f.event) {
+        return Err(Refusal::BadEvent);
     }
-    let count = f.count;
-    if !codes_ok(codes, count) {
-        return Wrote::Refused(8);
+    if !codes_ok(&f.places, f.count) {
+        return Err(Refusal::BadPlaces);
     }
     if !header::is_duration(f.duration) {
-        return Wrote::Refused(9);
+        return Err(Refusal::BadDuration);
     }
     if !header::is_issue(f.day, f.hour, f.minute) {
-        return Wrote::Refused(10);
+        return Err(Refusal::BadIssue);
     }
-    let sender = f.sender;
-    if !header::is_sender(&sender) {
-        return Wrote::Refused(11);
+    if !header::is_sender(&f.sender) {
+        return Err(Refusal::BadSender);
     }
-    let n = 35 + 7 * count;
+    let n = 35 + 7 * f.count;
     if room < n {
-        return Wrote::Refused(13);
+        return Err(Refusal::NoRoom);
     }
-    Wrote::Written(n)
+    Ok(n)
 }
 
 // These write a part of the text at index at, in space that has room for it. Each part's length is known, and so is its index.
@@ -79,16 +66,14 @@ fn put_place(out: &mut [u8], at: usize, code: u32, mark: u8)
 }
 
 // The places, each with its mark.
-fn put_places(out: &mut [u8], at: usize, codes: &[u32], count: usize)
-    requires { (1 ≤ count) × ((count ≤ length codes.now) × (at + 7 * count ≤ length out.old)) }
-    ensures { out.new ≡ pasted out.old at (places_text (take count codes.now)) }
+fn put_places(out: &mut [u8], at: usize, codes: &[u32])
+    requires { at + 7 * length codes.now ≤ length out.old }
+    ensures { out.new ≡ pasted out.old at (places_text codes.now) }
 {
-    let mut k: usize = 0;
-    while k + 1 < count {
-        put_place(out, at + 7 * k, codes[k], 45);
-        k += 1;
+    for (k, code) in codes.iter().enumerate() {
+        let mark = if k + 1 < codes.len() { 45 } else { 43 };
+        put_place(out, at + 7 * k, *code, mark);
     }
-    put_place(out, at + 7 * k, codes[k], 43);
 }
 
 // Some bytes and the mark `-`.
@@ -120,52 +105,42 @@ fn put_issue(out: &mut [u8], at: usize, day: u32, hour: u32, minute: u32)
 }
 
 // Start, origin and event.
-fn put_opening(out: &mut [u8], f: Fields)
+fn put_opening(out: &mut [u8], f: &Fields)
     requires { 13 ≤ length out.old }
-    ensures out_after { out.new ≡ pasted out.old 0 (opening_text f) }
-    ensures f_len { length (opening_text f) ≡ 13 }
+    ensures out_after { out.new ≡ pasted out.old 0 (opening_text f.now) }
+    ensures f_len { length (opening_text f.now) ≡ 13 }
 {
-    let origin = f.origin;
-    let event = f.event;
     codec::put_bytes(out, 0, b"ZCZC-");
-    put_marked(out, 5, &origin);
-    put_marked(out, 9, &event);
+    put_marked(out, 5, &f.origin);
+    put_marked(out, 9, &f.event);
 }
 
 // Duration, issue and sender.
-fn put_closing(out: &mut [u8], at: usize, f: Fields)
+fn put_closing(out: &mut [u8], at: usize, f: &Fields)
     requires { at + 22 ≤ length out.old }
-    ensures out_after { out.new ≡ pasted out.old at (closing_text f) }
-    ensures f_len { length (closing_text f) ≡ 22 }
+    ensures out_after { out.new ≡ pasted out.old at (closing_text f.now) }
+    ensures f_len { length (closing_text f.now) ≡ 22 }
 {
-    let sender = f.sender;
     put_duration(out, at, f.duration);
     put_issue(out, at + 5, f.day, f.hour, f.minute);
-    put_marked(out, at + 13, &sender);
+    put_marked(out, at + 13, &f.sender);
 }
 
-fn put_all(out: &mut [u8], f: Fields, codes: &[u32])
-    requires codes_value { (codes.now ≡ f.places) × (length codes.now ≡ 31) }
-    requires le_count { (1 ≤ f.count) × ((f.count ≤ 31) × (35 + 7 * f.count ≤ length out.old)) }
-    ensures { out.new ≡ pasted out.old 0 (all_text f) }
+fn put_all(out: &mut [u8], f: &Fields)
+    requires { (f.now.count ≤ 31) × (35 + 7 * f.now.count ≤ length out.old) }
+    ensures { out.new ≡ pasted out.old 0 (all_text f.now) }
 {
-    let count = f.count;
     put_opening(out, f);
-    put_places(out, 13, codes, count);
-    put_closing(out, 13 + 7 * count, f);
+    put_places(out, 13, &f.places[..f.count]);
+    put_closing(out, 13 + 7 * f.count, f);
 }
 
 // Writes the text of the fields to the front of `out`, or says by number why not. Entries of `places` past `count` do not
 // matter.
-pub fn write(f: Fields, out: &mut [u8]) -> Wrote
+pub fn write(f: Fields, out: &mut [u8]) -> Result<usize, Refusal>
     ensures { WritePromise f out.old out.new result }
 {
-    let room = out.len();
-    let codes = f.places;
-    let w = judge(f, &codes, room);
-    let Wrote::Written(n) = w else {
-        return w;
-    };
-    put_all(out, f, &codes);
-    Wrote::Written(n)
+    let n = judge(&f, out.len())?;
+    put_all(out, &f);
+    Ok(n)
 }

@@ -9,6 +9,7 @@ use lib.ListN.{length, get_or, drop}
 use lib.Seq.{drop-cons, drop-length}
 use lib.Dec.{eqb}
 use borrow.Author.Tests.{eq-eqb, ne_eqb, eqb-true}
+use Rattle.std.specs.List.{list_all}
 use Rattle.laws.specs.Lists.{every, same}
 use Rattle.laws.proofs.Tests.{impossible}
 
@@ -19,6 +20,11 @@ every_append p (x ∷ xs) ys = go (p x) (every_append p xs ys)
     go : (b : Bool) → every p (xs ++ ys) ≡ every p xs && every p ys → b && every p (xs ++ ys) ≡ (b && every p xs) && every p ys
     go true e = e
     go false e = refl
+
+-- the library's test is the same test
+pub every_is : {A : Type 0} (p : A → Bool) (xs : List A) → list_all p xs ≡ every p xs
+every_is p [] = refl
+every_is p (x ∷ xs) = ap (λ (b : Bool). p x && b) (every_is p xs)
 
 -- one entry that fails settles it, wherever it stands
 pub every_fails : (p : ℕ → Bool) (b : List ℕ) (k : ℕ) → p (get_or b k 0) ≡ false → k < length b → every p b ≡ false

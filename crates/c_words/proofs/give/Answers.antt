@@ -4,9 +4,9 @@ use Rattle.c_words.proofs.Pastes.{gives_few, gives_all}
 use Rattle.c_words.proofs.give.Goals as goal
 
 pub returns-then-out-lt50 : goal.returns-then-out-lt50
-returns-then-out-lt50 c = gives_few c.args.f c.args.out.now _ (omega arith) c.answer.ensures.says
+returns-then-out-lt50 c = gives_few c.args.f c.args.out.now (omega arith)
 
 pub returns : goal.returns
 returns c =
     let a = c.args in
-    gives_all a.f a.out.now _ _ _ (omega arith) c.answer-2.ensures.says c.put_front.ensures c.put_back.ensures
+    gives_all a.f a.out.now _ _ (omega arith) c.put_front.ensures c.put_back.ensures

@@ -10,10 +10,6 @@ use Rattle.c_words.proofs.Pastes.{paste_three}
 use borrow.Author.Rules.{rules}
 use Rattle.c_words.proofs.put_summary.Goals as goal
 
-pub put_bytes-requires : goal.put_bytes-requires
-put_bytes-requires c =
-    omega (arith, c.put_words.auto, c.requires)
-
 pub returns : goal.returns
 unfolding summary_words
 returns c =
@@ -22,5 +18,6 @@ returns c =
     let e : 3 ≡ length a.s.event = (search rules) in
     let z : List ℕ = rest_words a.s in
     let x : List ℕ = stamp_words a.s.times.issued ++ stamp_words a.s.times.until in
-    paste_three a.out.now _ _ _ 0 8 11 x a.s.event z (omega arith) (omega arith) (omega arith) c.put_words.ensures c.put_bytes.ensures
-    (c.put_words-2.ensures ∙ ap (λ (l : List ℕ). pasted c.put_bytes.new.out 11 l) c.rest_of-rest.ensures)
+    paste_three a.out.now _ _ _ 0 8 11 x a.s.event z (omega arith) (omega arith) (omega arith) c.put_words.ensures
+    (c.put_words-2.ensures ∙ ap (pasted c.put_words.new.out 8) c.wide.ensures)
+    (c.put_words-3.ensures ∙ ap (pasted c.put_words-2.new.out 11) c.rest_of-rest.ensures)

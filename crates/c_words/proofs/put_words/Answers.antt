@@ -1,19 +1,7 @@
--- What is left to write, pasted at its index, gives the whole.
+-- What is copied over a part is pasted there.
 use native.Mathlib.Omega.{arith}
-use native.Mathlib.Nat.{add-zero}
-use Rattle.laws.proofs.Pasted.{todo}
-use Rattle.laws.proofs.Writes.{write_end}
-use Rattle.c_words.proofs.Filled.{one_more}
+use Rattle.laws.proofs.Pasted.{pasted_part}
 use Rattle.c_words.proofs.put_words.Goals as goal
 
-pub loop-k-init : goal.loop-k-init
-loop-k-init c = (omega arith, rw add-zero (todo _ _ _ (omega arith)))
-
-pub loop-k-preserved : goal.loop-k-preserved
-loop-k-preserved c = (omega arith, one_more _ _ _ _ _ _ c.loop-k-test.true c.loop-k.invariant.1)
-
-pub shape_of-out : goal.shape_of-out
-shape_of-out c = c.loop-k.invariant.1.len
-
 pub returns : goal.returns
-returns c = write_end _ _ _ _ c.args.src.now c.loop-k.k c.loop-k.invariant.1 (omega arith)
+returns c = pasted_part _ _ _ _ _ c.copy_from_slice.ensures.after (omega arith)

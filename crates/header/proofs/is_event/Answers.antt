@@ -1,25 +1,19 @@
--- The test of the letters that are left says what the test of all says.
-use mathlib.Core.Path.{sym, ◌∙◌}
-use native.Mathlib.Omega.{arith}
-use Rattle.laws.proofs.Every.{every_fails, begun, passed, ended}
+-- The library's test of all the letters is the definition's.
+use mathlib.Core.Path.{◌≡◌, ◌∙◌}
+use Rattle.std.proofs.Common.{rules, tests}
+use Rattle.std.proofs.lemmas.Iterator.{YieldsList-from_slice}
+use Rattle.std.proofs.lemmas.Iterator.Search.{all_from_yields_List}
+use Prim.Native.Nat.{ℕ}
+use mathlib.Core.Bool.{Bool}
+use Rattle.codec.specs.Promise.{BetweenPromise}
 use Rattle.laws.specs.Numbers.{within}
+use Rattle.laws.proofs.Every.{every_is}
 use Rattle.header.proofs.is_event.Goals as goal
 
-pub loop-k-init : goal.loop-k-init
-loop-k-init c = begun (within 65 90) _
-
-pub returns-then-not-between : goal.returns-then-not-between
-returns-then-not-between c =
-    let b = c.args.b.now in
-    let asked = c.between in
-    let fails = sym asked.ensures.says ∙ c.if-not-between.true in
-    record { says = sym (every_fails (within 65 90) b _ fails (omega arith)) }
-
-pub loop-k-preserved : goal.loop-k-preserved
-loop-k-preserved c =
-    let asked = c.between in
-    passed (within 65 90) _ _ c.loop-k-test.true (sym asked.ensures.says ∙ c.if-not-between.false)
-    c.loop-k.invariant
+between_says : {lo hi b : ℕ} {r : Bool} → BetweenPromise lo hi b r → r ≡ within lo hi b
+between_says p = p.says
 
 pub returns : goal.returns
-returns c = record { says = sym (ended (within 65 90) _ _ c.loop-k-test.false c.loop-k.invariant) }
+returns c =
+    let b = c.args.b.now in
+    record { says = all_from_yields_List (within 65 90) _ _ _ c.all.ensures.ran (YieldsList-from_slice b cc) (λ x b q k. search (rules, tests, between_says)) ∙ every_is (within 65 90) b }

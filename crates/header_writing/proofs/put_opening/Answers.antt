@@ -21,13 +21,13 @@ pub returns : goal.returns
 unfolding opening_text
 returns c =
     let a = c.args in
-    let lo : 3 ≡ length a.f.origin = (search rules) in
-    let le : 3 ≡ length a.f.event = (search rules) in
-    let origin : List ℕ = a.f.origin ++ (45 ∷ []) in
-    let event : List ℕ = a.f.event ++ (45 ∷ []) in
-    let l : length (opening_text a.f) ≡ 13 = opening_length a.f lo le in
-    let all = todo a.out.now 0 (opening_text a.f) (omega arith) in
+    let lo : 3 ≡ length a.f.now.origin = (search rules) in
+    let le : 3 ≡ length a.f.now.event = (search rules) in
+    let origin : List ℕ = a.f.now.origin ++ (45 ∷ []) in
+    let event : List ℕ = a.f.now.event ++ (45 ∷ []) in
+    let l : length (opening_text a.f.now) ≡ 13 = opening_length a.f.now lo le in
+    let all = todo a.out.now 0 (opening_text a.f.now) (omega arith) in
     let fields = put_next (90 ∷ 67 ∷ 90 ∷ 67 ∷ 45 ∷ []) (origin ++ event) all c.put_bytes.ensures 5 refl in
-    let n : 9 ≡ 5 + length origin = omega (arith, length-append a.f.origin (45 ∷ [])) in
+    let n : 9 ≡ 5 + length origin = omega (arith, length-append a.f.now.origin (45 ∷ [])) in
     let last = step _ _ _ _ _ fields origin event _ 9 refl c.put_marked.ensures n in
     record { out_after = c.put_marked-2.ensures ∙ last.same; f_len = l }
