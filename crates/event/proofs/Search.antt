@@ -1,73 +1,56 @@
 -- The search in the list of codes, and the class of what it finds.
-use mathlib.Core.Path.{◌≡◌, refl, sym, ap, ◌∙◌}
-use mathlib.Core.Bool.{true, false, and-true}
-use mathlib.Core.List.{List, [], ◌∷◌}
-use Prim.Native.Nat.{ℕ, ◌+◌, ◌≤◌, ◌<◌}
-use native.Mathlib.Omega.{arith}
-use borrow.Author.Tests.{lt-ltb, eqb-true}
+use mathlib.Core.Path.{◌≡◌, refl, sym, ap, subst}
+use mathlib.Core.Bool.{Bool, true, false, cond, ◌&&◌}
+use mathlib.Core.List.{List, [], ◌∷◌, map}
+use Prim.Native.Nat.{ℕ}
 use lib.Dec.{eqb}
-use lib.ListN.{length, get_or, drop}
+use lib.Pointwise.{pointwise}
+use denote.Ref.{Bor}
+use Rattle.std.specs.Prelude.{Option, Some, None, MatchOption}
+use Rattle.std.specs.Option.{IsSomeAnd, option_map}
+use Rattle.std.specs.List.{find}
 use Rattle.laws.specs.Lists.{same, some}
 use Rattle.laws.specs.Text.{ascii}
 use Rattle.laws.proofs.Every.{same_eq}
-use Rattle.laws.proofs.Rows.{every_at, some_here, some_next, some_map}
-use Rattle.event.specs.Events.{events, code, is_listed}
+use Rattle.laws.proofs.Rows.{some_map}
+use Rattle.event.specs.Events.{events, is_listed}
 use Rattle.event.specs.Class.{class_of}
-use Rattle.event.specs.Steps.{codes, spells, Found}
+use Rattle.event.specs.Steps.{codes, Found}
 
-pub count : length codes ≡ 61
-unfolding codes events
-count = refl
+-- a row of the table: a code, and its class
+abbrev pub row : List ℕ → List ℕ × ℕ
+row e = (e, class_of e)
 
--- each row has three bytes, so a row that spells a code is the code
-three : (k : ℕ) → k < 61 → length (get_or codes k []) ≡ 3
-unfolding codes events
-three k h = eqb-true (length (get_or codes k [])) 3 (every_at (λ x. eqb (length x) 3) [] codes k refl h)
+pub pointwise_same : (xs ys : List ℕ) → pointwise eqb xs ys ≡ same xs ys
+pointwise_same [] [] = refl
+pointwise_same [] (y ∷ ys) = refl
+pointwise_same (x ∷ xs) [] = refl
+pointwise_same (x ∷ xs) (y ∷ ys) = ap (λ (b : Bool). eqb x y && b) (pointwise_same xs ys)
 
-same_spells : (a b c : ℕ) (x : List ℕ) → length x ≡ 3 → same (code a b c) x ≡ spells x a b c
-same_spells a b c [] h = absurd (omega arith)
-same_spells a b c (x ∷ []) h = absurd (omega arith)
-same_spells a b c (x ∷ y ∷ []) h = absurd (omega arith)
-same_spells a b c (x ∷ y ∷ z ∷ []) h = rw (and-true (eqb c z))
-same_spells a b c (x ∷ y ∷ z ∷ w ∷ l) h = absurd (omega arith)
+abbrev pub rows : List (List ℕ × ℕ)
+rows = map row codes
 
--- ---- the loop: the rows that are left say whether the code is listed
-
-module _ (a b c k : ℕ) (low : k < 61) (left : some (same (code a b c)) (drop k codes) ≡ is_listed (code a b c)) where
-  row : spells (get_or codes k []) a b c ≡ same (code a b c) (get_or codes k [])
-  row = sym (same_spells a b c (get_or codes k []) (three k low))
-
-  inside : k < length codes
-  inside = rw count low
-
-  pub found : spells (get_or codes k []) a b c ≡ true → Found (code a b c) k
-  found q =
-      let e : same (code a b c) (get_or codes k []) ≡ true = sym row ∙ q in
-      record {
-        listed = lt-ltb k 61 low ∙ sym (some_here (same (code a b c)) [] codes k inside e) ∙ left;
-        stands = λ h. sym (same_eq (code a b c) (get_or codes k []) e);
-      }
-
-  pub passed : spells (get_or codes k []) a b c ≡ false → some (same (code a b c)) (drop (k + 1) codes) ≡ is_listed (code a b c)
-  passed q = some_next (same (code a b c)) [] codes k inside (sym row ∙ q) ∙ left
-
-pub begun : (e : List ℕ) → some (same e) (drop 0 codes) ≡ is_listed e
+listed : (e : List ℕ) → some (same e) codes ≡ is_listed e
 unfolding is_listed codes
-begun e = some_map (same e) ascii events
+listed e = some_map (same e) ascii events
 
-at_end : (e : List ℕ) → some (same e) (drop 61 codes) ≡ false
-unfolding codes events
-at_end e = refl
+-- the first row of some codes that has the code e
+abbrev Has : List ℕ → List (List ℕ) → Option (List ℕ × ℕ) → Type 0
+Has e l r = MatchOption r (some (same e) l ≡ false) (λ x. (some (same e) l ≡ true) × (x.1 ≡ class_of e))
 
-pub ended : (e : List ℕ) (k : ℕ) → k ≤ 61 → 61 ≤ k → some (same e) (drop k codes) ≡ is_listed e → Found e 61
-ended e k a b q =
-    let h : k ≡ 61 = omega arith in
-    record {
-      listed = sym (at_end e) ∙ ap (λ (n : ℕ). some (same e) (drop n codes)) (sym h) ∙ q;
-      stands = λ l. absurd (omega arith);
-    }
+first : (e : List ℕ) (l : List (List ℕ)) → Has e l (find (λ r. pointwise eqb e r.0) (map row l))
+first e [] = refl
+first e (x ∷ l) = rw (pointwise_same e x) (by (same e x) refl (first e l))
+  where
+    by : (b : Bool) → same e x ≡ b → Has e l (find (λ r. pointwise eqb e r.0) (map row l))
+        → Has e (x ∷ l) (cond b (Some (row x)) (find (λ r. pointwise eqb e r.0) (map row l)))
+    by true q k = (rw q, sym (ap class_of (same_eq e x q)))
+    by false q k = rw q k
 
--- ---- the class of what was found
-
-pub listed_class : (e : List ℕ) (k : ℕ) → Found e k → k < 61 → class_of (get_or codes k []) ≡ class_of e
-listed_class e k f h = ap class_of (f.stands h)
+-- what is found in the whole table, and the class that it has
+pub found : (e : List ℕ) (row : Option (Bor (List ℕ × ℕ))) (r : Option ℕ)
+    → option_map (λ x. x.now) row ≡ find (λ r. pointwise eqb e r.0) rows
+    → MatchOption row (r ≡ None) (λ x. IsSomeAnd r (λ k. k ≡ x.now.1)) → Found e r
+found e None r p q = rw (q, ← listed e) (subst (Has e codes) (sym p) (first e codes))
+found e (Some x) (Some k) p q = rw (q, ← listed e) (subst (Has e codes) (sym p) (first e codes))
+found e (Some x) None p q = absurd q
