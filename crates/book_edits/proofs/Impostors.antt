@@ -1,5 +1,6 @@
 -- One addition to the empty book and its removal, worked out: what meets the promise neither refuses every edit nor only pretends.
 use Prim.Native.Nat.{ℕ}
+use Rattle.std.proofs.Common.{Result, Ok}
 use mathlib.Core.List.{List, [], ◌∷◌}
 use mathlib.Core.Path.{◌≡◌, refl, sym, ap, ◌∙◌}
 use native.Mathlib.Omega.{arith}
@@ -15,10 +16,9 @@ use Rattle.book_rules.proofs.Form.{form_laws}
 use Rattle.book_rules.proofs.Pairs.{insert_nil}
 use Rattle.book_rules.proofs.Whole.{recs_layout, empty_layout}
 use Rattle.book_rules.proofs.Edited.{AddOpen, add_granted, length_insert, recs_added, added_good, room_left, RemoveOpen, remove_granted}
-use Rattle.book_edits.specs.declared.Edited.{Edited}
-use Rattle.book_edits.specs.declared.Edited.TheVariants.{Done}
+use Rattle.refusals.specs.declared.Refusal.{Refusal}
+use Rattle.refusals.proofs.NoChoice.{said_one}
 use Rattle.book_edits.specs.Promise.{AddPromise, RemovePromise}
-use Rattle.book_edits.proofs.NoChoice.{said_one}
 use Rattle.book_edits.proofs.Loads.{empty_good}
 
 none_stand : recs empty ≡ []
@@ -36,11 +36,11 @@ open_first = record {
 }
 
 -- the first addition to an empty book is done, and one record then stands
-pub adds_first : (r : Edited) (left : List ℕ) → AddPromise empty 39051 7 1 r left → (r ≡ Done) × (length (recs left) ≡ 1)
+pub adds_first : (r : Result (Unit {0}) Refusal) (left : List ℕ) → AddPromise empty 39051 7 1 r left → (r ≡ Ok tt) × (length (recs left) ≡ 1)
 adds_first r left a =
     let q : add_says form empty 39051 7 1 ≡ granted tt = add_granted form empty 39051 7 1 open_first in
     let e : left ≡ added form 39051 7 1 empty = a.lent ∙ ap (λ (s : Said (Unit {0})). leaves (λ u. added form 39051 7 1) s empty) q in (
-      said_one r Done (a.says ∙ q),
+      said_one r (Ok tt) (a.says ∙ q),
       ap (λ (b : List ℕ). length (recs b)) e
           ∙ ap length (recs_added form form_laws empty 39051 7 1 open_first)
           ∙ length_insert form (rec_of form 39051 7 1) (recs empty)
@@ -65,12 +65,12 @@ open_last = record {
 }
 
 -- the removal of the one subscription that stands is done, and the book is then the empty one, in every word
-pub removes_last : (r : Edited) (left : List ℕ) → RemovePromise (added form 39051 7 1 empty) 39051 7 r left → (r ≡ Done) × (left ≡ empty)
+pub removes_last : (r : Result (Unit {0}) Refusal) (left : List ℕ) → RemovePromise (added form 39051 7 1 empty) 39051 7 r left → (r ≡ Ok tt) × (left ≡ empty)
 unfolding removed without keep form client_and_wish first_word
 removes_last r left a =
     let w : List ℕ = added form 39051 7 1 empty in
     let q : remove_says form w 39051 7 ≡ granted tt = remove_granted form w 39051 7 open_last in (
-      said_one r Done (a.says ∙ q),
+      said_one r (Ok tt) (a.says ∙ q),
       a.lent
           ∙ ap (λ (s : Said (Unit {0})). leaves (λ u. removed form 39051 7) s w) q
           ∙ ap (λ (s : List Rec). layout (without form 39051 7 s)) one_stands

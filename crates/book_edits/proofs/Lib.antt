@@ -1,3 +1,4 @@
+pub mod Counts
 pub mod Search
 pub mod Standing
 pub mod Adds
