@@ -1,15 +1,16 @@
 -- The loop that gathers the words of the `sub=` lines: what is gathered is added first, and then what is left has its say.
 use mathlib.Core.Path.{◌≡◌, refl, sym, ap, ◌∙◌}
-use mathlib.Core.Bool.{true, false}
-use mathlib.Core.List.{List, [], ◌∷◌, ◌++◌, append_assoc}
+use mathlib.Core.List.{List, [], ◌∷◌, ◌++◌}
 use Prim.Native.Nat.{ℕ, zero, suc, ◌+◌, ◌*◌, ◌≤◌, ◌<◌}
 use native.Mathlib.Omega.{arith}
 use lib.ListN.{length, take, drop, set, length-append, length-set}
-use lib.Seq.{length-take-le, take_at}
-use Rattle.laws.specs.Order.{Said, granted, refused, next}
-use Rattle.laws.specs.Space.{pasted}
+use Rattle.laws.specs.Order.{Said, granted, next}
+use Rattle.std.specs.Prelude.{Ok, Err}
+use Rattle.std.proofs.lemmas.List.{take_more_set, flat_map_more}
+use Rattle.refusals.specs.Refusals.{says}
+use Rattle.refusals.specs.declared.Refusal.{Refusal}
+use Rattle.refusals.proofs.Said.{next_refused}
 use Rattle.laws.proofs.Next.{next_next, next_said_by}
-use Rattle.laws.proofs.Pasted.{pasted_one, pasted_two, pasted_length}
 use Rattle.input_lines.specs.Lines.{pieces}
 use Rattle.input_lines.specs.Forms.{sub_line}
 use Rattle.input_lines.specs.LineByLine.{each_line}
@@ -22,8 +23,9 @@ use Rattle.book_rules.specs.Edits.{add_says, added}
 use Rattle.book_rules.specs.Subscription.{Sub, sub}
 use Rattle.book_rules.specs.Load.{items, add_all, load_says}
 use Rattle.book_history.proofs.Proved.{form_book_and_history}
+use Rattle.page.proofs.Fronts.{bad}
 use Rattle.page.specs.Input.{adds_line}
-use Rattle.page.specs.Steps.{gathered_says}
+use Rattle.page.specs.Steps.{flat, gathered_says}
 
 -- ---- items, three words each
 
@@ -61,40 +63,28 @@ never list n b h l e =
     let k = (form_book_and_history.load_is_building empty list).granted_only b (load_empty list ∙ e) in
     omega (arith, k.0.few, items_length list n h)
 
--- ---- three words stored
+-- ---- items as they are stored
 
-pub three_stores : (d : List ℕ) (at x y z : ℕ) → at + 3 ≤ length d → set (set (set d at x) (at + 1) y) (at + 2) z ≡ pasted d at (x ∷ y ∷ z ∷ [])
-three_stores d at x y z h =
-    let e : set (set d at x) (at + 1) y ≡ pasted d at (x ∷ y ∷ []) =
-    pasted_one (set d at x) (at + 1) y (rw length-set (omega arith))
-    ∙ ap (λ (l : List ℕ). pasted l (at + 1) (y ∷ [])) (pasted_one d at x (omega arith))
-    ∙ pasted_two d at (x ∷ []) (y ∷ []) (omega arith) in
-    ap (λ (l : List ℕ). set l (at + 2) z) e
-    ∙ pasted_one (pasted d at (x ∷ y ∷ [])) (at + 2) z (rw (pasted_length d at (x ∷ y ∷ []) (omega arith)) (omega arith))
-    ∙ pasted_two d at (x ∷ y ∷ []) (z ∷ []) (omega arith)
-
-pasted_front : (d : List ℕ) (at : ℕ) (s : List ℕ) (n : ℕ) → at + length s ≤ length d → n ≡ at + length s → take n (pasted d at s) ≡ take at d ++ s
-unfolding pasted
-pasted_front d at s n h e =
-    ap (take n) (sym (append_assoc (take at d) s (drop (at + length s) d)))
-    ∙ take_at (take at d ++ s) (drop (at + length s) d) n (length-append (take at d) s ∙ omega (arith, length-take-le at d (omega arith)))
+-- the first items, and one more
+flat_more : (its : List (List ℕ)) (n : ℕ) (x : List ℕ) → n < length its → flat (take (n + 1) (set its n x)) ≡ flat (take n its) ++ x
+flat_more its n x h = ap flat (take_more_set its n x h) ∙ sym (flat_map_more (λ l. l) [] (take n its) x)
 
 -- ---- the loop
 
-pub record Gathering (t : List ℕ) (at : ℕ) (words : List ℕ) (count i : ℕ) : Type 0 where
+pub record Gathering (t : List ℕ) (at : ℕ) (its : List (List ℕ)) (count i : ℕ) : Type 0 where
   pub inside : i ≤ length t
-  pub few : count ≤ 4097
-  pub len : length words ≡ 12291
-  pub whole : next (add_all form empty (items (take (3 * count) words))) (λ b. each_line sub_line adds_line b (pieces (drop i t)))
+  pub len : length its ≡ 4097
+  pub taken : length (flat (take count its)) ≡ 3 * count
+  pub whole : next (add_all form empty (items (flat (take count its)))) (λ b. each_line sub_line adds_line b (pieces (drop i t)))
       ≡ each_line sub_line adds_line empty (pieces (drop at t))
 
-pub begun : (t : List ℕ) (at : ℕ) (words : List ℕ) → at ≤ length t → length words ≡ 12291 → Gathering t at words 0 at
+pub begun : (t : List ℕ) (at : ℕ) (its : List (List ℕ)) → at ≤ length t → length its ≡ 4097 → Gathering t at its 0 at
 unfolding add_all
-begun t at words h l = record { inside = h; few = omega arith; len = l; whole = refl }
+begun t at its h l = record { inside = h; len = l; taken = refl; whole = refl }
 
-module _ (t : List ℕ) (at : ℕ) (words : List ℕ) (count i : ℕ) (g : Gathering t at words count i) where
+module _ (t : List ℕ) (at : ℕ) (its : List (List ℕ)) (count i : ℕ) (g : Gathering t at its count i) where
   abbrev sofar : List ℕ
-  sofar = take (3 * count) words
+  sofar = flat (take count its)
 
   abbrev book : Said (List ℕ)
   book = add_all form empty (items sofar)
@@ -106,33 +96,34 @@ module _ (t : List ℕ) (at : ℕ) (words : List ℕ) (count i : ℕ) (g : Gathe
   abbrev lines : Said (List ℕ)
   lines = from at empty
 
-  taken : length sofar ≡ 3 * count
-  taken = length-take-le (3 * count) words (omega (arith, g.len, g.few))
-
   -- nothing is left
-  pub all_gathered : length t ≤ i → gathered_says sofar true ≡ lines
+  pub all_gathered : length t ≤ i → gathered_says sofar (Ok tt) ≡ lines
   all_gathered h = next_said_by book (λ b. granted b) (from i) (λ b e. sym (each_done_is sub_line adds_line b t i h)) ∙ g.whole
 
   -- the next line is malformed
-  pub cut_short : i < length t → next_of sub_line t i ≡ refused 23 → gathered_says sofar false ≡ lines
-  cut_short h e = next_said_by book (λ b. refused 23) (from i) (λ b q. sym (each_bad sub_line adds_line b t i h e)) ∙ g.whole
+  pub cut_short : i < length t → (e : Refusal) → says e ≡ next_of sub_line t i → gathered_says sofar (Err e) ≡ lines
+  cut_short h e p =
+      let b = bad sub_line t i e p in
+      next_said_by book (λ w. next (says e) (λ u. granted w)) (from i)
+      (λ w q. next_refused e (λ u. granted w) ∙ b.1 ∙ sym (each_bad sub_line adds_line w t i h b.0))
+      ∙ g.whole
 
   -- more than a book can hold: the rest has no say
-  pub too_many : 4096 < count → gathered_says sofar true ≡ lines
-  too_many h = next_said_by book (λ b. granted b) (from i) (λ b e. absurd (never sofar count b taken h e)) ∙ g.whole
+  pub too_many : (n : ℕ) → count ≡ n → 4096 < n → gathered_says (flat (take n its)) (Ok tt) ≡ lines
+  too_many n q h =
+      ap (λ (m : ℕ). gathered_says (flat (take m its)) (Ok tt)) (sym q)
+      ∙ next_said_by book (λ b. granted b) (from i) (λ b e. absurd (never sofar count b g.taken (omega arith) e)) ∙ g.whole
 
   -- one line more
-  pub went : (p c v j : ℕ) (words' : List ℕ) → i < length t → count ≤ 4096 → next_of sub_line t i ≡ granted ((p, (c, v)), j)
-      → words' ≡ pasted words (3 * count) (p ∷ c ∷ v ∷ []) → Gathering t at words' (count + 1) j
-  went p c v j words' h l e q =
-      let r : 3 * count + 3 ≤ length words = omega (arith, g.len) in
-      let w : take (3 * (count + 1)) words' ≡ sofar ++ (p ∷ c ∷ v ∷ []) =
-      ap (take (3 * (count + 1))) q ∙ pasted_front words (3 * count) (p ∷ c ∷ v ∷ []) (3 * (count + 1)) r (omega arith) in
-      let x : items (take (3 * (count + 1)) words') ≡ items sofar ++ (sub p c v ∷ []) = ap items w ∙ items_more sofar count p c v taken in
+  pub went : (p c v j : ℕ) → i < length t → count < 4097 → next_of sub_line t i ≡ granted ((p, (c, v)), j)
+      → Gathering t at (set its count (p ∷ c ∷ v ∷ [])) (count + 1) j
+  went p c v j h l e =
+      let w : flat (take (count + 1) (set its count (p ∷ c ∷ v ∷ []))) ≡ sofar ++ (p ∷ c ∷ v ∷ []) = flat_more its count (p ∷ c ∷ v ∷ []) (omega (arith, g.len)) in
+      let x : items (flat (take (count + 1) (set its count (p ∷ c ∷ v ∷ [])))) ≡ items sofar ++ (sub p c v ∷ []) = ap items w ∙ items_more sofar count p c v g.taken in
       record {
         inside = (took_in sub_line t i (p, (c, v)) j e).1;
-        few = omega arith;
-        len = ap length q ∙ pasted_length words (3 * count) (p ∷ c ∷ v ∷ []) r ∙ g.len;
+        len = length-set its count (p ∷ c ∷ v ∷ []) ∙ g.len;
+        taken = ap length w ∙ length-append sofar (p ∷ c ∷ v ∷ []) ∙ omega (arith, g.taken);
         whole =
             ap (λ (s : List Sub). next (add_all form empty s) (from j)) x
             ∙ ap (λ (o : Said (List ℕ)). next o (from j)) (add_more empty (items sofar) p c v)

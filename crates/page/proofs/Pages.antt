@@ -1,51 +1,48 @@
--- The page of an input: by its first three lines, then by its book, then by its report.
-use mathlib.Core.Path.{◌≡◌, sym, ap, ◌∙◌}
+-- The page of an input: by what it says, a report's summary and hits, or a refusal's number.
+use mathlib.Core.Path.{◌≡◌, refl, sym, ap, ◌∙◌}
+use mathlib.Core.Bool.{true}
 use mathlib.Core.List.{List}
-use Prim.Native.Nat.{ℕ, ◌+◌, ◌-◌}
-use lib.ListN.{take, drop}
-use Rattle.laws.specs.Order.{Said, next}
-use Rattle.input_lines.specs.Lines.{pieces}
-use Rattle.input_lines.specs.Forms.{sub_line}
-use Rattle.input_lines.specs.LineByLine.{each_line}
-use Rattle.page_printing.specs.Page.{refused_text}
+use Prim.Native.Nat.{ℕ, ◌*◌}
+use lib.ListN.{take}
+use Rattle.std.specs.Prelude.{Result, Ok}
+use Rattle.laws.specs.Order.{Said, granted, refused, refused_at, is_refusal, next}
+use Rattle.refusals.specs.Refusals.{says, number_in}
+use Rattle.refusals.specs.declared.Refusal.{Refusal}
+use Rattle.refusals.proofs.Said.{says_refused, says_moved}
+use Rattle.report.specs.declared.Summary.{Summary}
+use Rattle.page_printing.specs.Page.{page_text, refused_text}
 use Rattle.page_printing.specs.Promise.{PrintPromise}
-use Rattle.page_printing.specs.declared.Printed.{Printed}
 use Rattle.page_printing.proofs.Writing.{print_as}
-use Rattle.book_rules.specs.Rules.{empty}
-use Rattle.book_edits.specs.declared.Edited.{Edited}
-use Rattle.book_edits.specs.declared.Edited.TheVariants.{Done, Refused}
-use Rattle.page.specs.Input.{adds_line, Shown, report_shows}
+use Rattle.page.specs.Input.{Shown, input_says}
 use Rattle.page.specs.Page.{printed, page_of}
 use Rattle.page.specs.Promise.{PagePromise}
-use Rattle.page.specs.Steps.{top_says, three_say, TopLinesOf, booked}
-use Rattle.page.specs.declared.TopLines.{TopLines}
-use Rattle.page.specs.declared.TopLines.TheVariants.{Lines, Malformed}
-use Rattle.page.specs.declared.Three.{Three}
+use Rattle.page.specs.Steps.{Reported}
 
--- what the first three lines leave to say is the page
-module _ (t : List ℕ) (f : TopLines) (k : TopLinesOf t f) (out : List ℕ) (r : Printed) (left : List ℕ) where
-  promised : (g : TopLines) → f ≡ g → PrintPromise (printed (top_says t g)) out r left → PagePromise t out r left
+-- any refusal prints its number alone
+shows_refused : (s : Said Shown) → is_refusal s ≡ true → refused_text (number_in (next {B = ℕ} s (λ a. refused 0))) ≡ printed s
+shows_refused (granted a) h = cc
+shows_refused (refused n) h = refl
+shows_refused (refused_at n i) h = refl
+
+module _ (t out : List ℕ) (r : Result ℕ Refusal) (d : List ℕ) where
+  promised : (text : List ℕ) → text ≡ page_of t → PrintPromise text out r d → PagePromise t out r d
+  promised text e p = let q = print_as e p in record { says = q.says; lent = q.space }
+
+  pub page_refused : (e : Refusal) → input_says t ≡ says e → (n : ℕ) → n ≡ number_in (says {A = ℕ} e)
+      → PrintPromise (refused_text n) out r d → PagePromise t out r d
   unfolding page_of
-  promised g e p =
-      let q = print_as (ap printed (ap (top_says t) (sym e) ∙ k.says)) p in
-      record { says = q.says; lent = q.space }
+  page_refused e h n q =
+      promised (refused_text n) (
+      ap refused_text (q ∙ sym (ap number_in (says_moved e (says {A = Shown} e) refl)))
+      ∙ shows_refused (says e) (says_refused Shown e)
+      ∙ ap printed (sym h)
+      )
 
-  pub no_front : f ≡ Malformed → PrintPromise (refused_text 23) out r left → PagePromise t out r left
-  no_front e p = promised Malformed e p
-
-  pub with_front : (l : Three) → f ≡ Lines l → PrintPromise (printed (three_say t l)) out r left → PagePromise t out r left
-  with_front l e p = promised (Lines l) e p
-
--- the book after the `sub=` lines, or the number of the refusal
-module _ (t : List ℕ) (l : Three) (x : Edited) (book : List ℕ) (b : booked x book ≡ each_line sub_line adds_line empty (pieces (drop (l.to + 1) t))) where
-  abbrev reports : List ℕ → Said Shown
-  reports w = report_shows w l.client (take (l.to - l.from) (drop l.from t)) l.at
-
-  by : (y : Edited) → x ≡ y → printed (next (booked y book) reports) ≡ printed (three_say t l)
-  by y e = ap (λ (z : Edited). printed (next (booked z book) reports)) (sym e) ∙ ap (λ (o : Said (List ℕ)). printed (next o reports)) b
-
-  pub no_book : (n : ℕ) → x ≡ Refused n → refused_text n ≡ printed (three_say t l)
-  no_book n e = by (Refused n) e
-
-  pub with_book : x ≡ Done → printed (reports book) ≡ printed (three_say t l)
-  with_book e = by Done e
+  pub page_shown : (client : ℕ) (s : Summary) (left : List ℕ) → Reported t (Ok (client, s)) left
+      → PrintPromise (page_text client s.times s.event s.listed s.class (take (2 * s.hits) left)) out r d → PagePromise t out r d
+  unfolding page_of
+  page_shown client s left h =
+      let e = sym h.2 in
+      promised (page_text client s.times s.event s.listed s.class (take (2 * s.hits) left)) (
+      (λ i. page_text client (e i).times (e i).event (e i).listed (e i).class (h.4 i)) ∙ ap printed (sym h.1)
+      )

@@ -32,8 +32,9 @@ use Rattle.input_lines.specs.Lines.{pieces, LineForm, is_line}
 use Rattle.input_lines.specs.Forms.{now_line, client_line, header_line, sub_line}
 use Rattle.input_lines.specs.LineByLine.{one_line, each_line}
 use Rattle.page_printing.specs.Page.{page_room}
-use Rattle.page_printing.specs.Promise.{said_printed}
-use Rattle.page_printing.specs.declared.Printed.{Printed}
+use Rattle.std.specs.Prelude.{Result}
+use Rattle.refusals.specs.Refusals.{said}
+use Rattle.refusals.specs.declared.Refusal.{Refusal}
 use Rattle.page_printing.proofs.Pages.{page_fits, refusal_fits}
 use Rattle.page_printing.proofs.Writing.{print_fits}
 use Rattle.page.specs.Input.{clock_of, adds_line, hit_room, Shown, report_shows, lines_say, input_says}
@@ -181,6 +182,6 @@ page_in_room t = go (input_says t) (input_fits t)
     go (refused_at n i) k = refusal_fits n k
 
 -- where that many are lent, the page is printed
-pub page_printed : {input out left : List ℕ} {r : Printed} → PagePromise input out r left → page_room ≤ length out
-    → (said_printed r ≡ granted (length (page_of input))) × (left ≡ pasted out 0 (page_of input))
+pub page_printed : {input out left : List ℕ} {r : Result ℕ Refusal} → PagePromise input out r left → page_room ≤ length out
+    → (said r ≡ granted (length (page_of input))) × (left ≡ pasted out 0 (page_of input))
 page_printed {input} {out} p h = print_fits (as_print p) (omega (arith, page_in_room input))

@@ -1,23 +1,24 @@
 -- A page and a refusal's line as texts: their parts, and how long they are.
 use Prim.Native.Nat.{ℕ, ◌+◌, ◌*◌, ◌/◌, ◌≤◌, ◌<◌}
 use mathlib.Core.Path.{◌≡◌, refl, sym, ap, ◌∙◌}
-use mathlib.Core.Logic.{◌⊎◌, inl, inr}
 use mathlib.Core.List.{List, [], ◌∷◌, ◌++◌}
 use mathlib.Core.Bool.{Bool, true, false}
 use native.Mathlib.Omega.{arith}
 use lib.ListN.{length, length-append}
-use lib.Dec.{leb}
-use borrow.Author.Tests.{le-leb, lt-leb, leb-true, leb-false}
+use Rattle.std.specs.Prelude.{Ok, Err}
 use Rattle.laws.specs.Numbers.{dig, size}
-use Rattle.laws.proofs.Tests.{le_or_lt}
+use Rattle.laws.specs.Space.{pasted}
+use Rattle.laws.proofs.Pasted.{Todo, todo, step}
+use Rattle.refusals.specs.declared.Refusal.TheVariants.{NoRoom}
 use Rattle.laws.proofs.Decimal.{length_dig}
 use Rattle.laws.proofs.Plain.{size_small}
 use Rattle.clock.specs.declared.Phase.{Phase}
 use Rattle.clock.specs.declared.Phase.TheVariants.{Early, Live, Expired}
 use Rattle.clock.specs.declared.Times.{Times}
+use Rattle.page_printing.specs.Promise.{PrintPromise}
 use Rattle.page_printing.specs.Page.{line, yes_no, phase_text, ended, hit_lines, page_lines, page_text, refused_text, page_room}
-use Rattle.page_printing.specs.Steps.{head_lines, what_lines, found_lines, page_length}
-use Rattle.page_printing.proofs.Writing.{ended_append, length_line, length_lines}
+use Rattle.page_printing.specs.Steps.{Puts, head_lines, what_lines, found_lines, page_length}
+use Rattle.page_printing.proofs.Writing.{ended_append, length_line, length_lines, print_short, print_all}
 use Rattle.page_printing.proofs.Hits.{hits_count, hits_length}
 
 -- ---- a refusal's line
@@ -83,16 +84,53 @@ module _ (client : ℕ) (times : Times) (event : List ℕ) (listed : Bool) (clas
         hits_length hits,
       )
 
-  -- whether it fits, as the code asks it
-  module _ (w room : ℕ) (ew : w ≡ size (length hits / 2)) where
-    abbrev need : ℕ
-    need = page_length listed times.phase w (length event) (length hits / 2)
+  -- w digits say the number of hits; what the page leaves of d without them
+  module _ (w : ℕ) (e : w ≡ size (length hits / 2)) (d : List ℕ) where
+    abbrev text : List ℕ
+    text = page_text client times event listed class hits
 
-    pub page_short : (b : Bool) → b ≡ leb need room → b ≡ false → room < length (page_text client times event listed class hits)
-    page_short b e h = omega (arith, leb-false need room (sym e ∙ h), page_length_is)
+    abbrev some : ℕ
+    some = page_length listed times.phase w (length event) 0
 
-    pub page_enough : (b : Bool) → b ≡ leb need room → b ≡ true → length (page_text client times event listed class hits) ≤ room
-    page_enough b e h = omega (arith, leb-true need room (sym e ∙ h), page_length_is)
+    pub page_short : length d < some → PrintPromise text d (Err NoRoom) d
+    page_short h = print_short text d (omega (arith, page_length_is))
+
+    module _ (left : ℕ) (r : some + left ≡ length d) where
+      pub page_long : left / 14 < length hits / 2 → PrintPromise text d (Err NoRoom) d
+      page_long h = print_short text d (omega (arith, page_length_is))
+
+      -- what is left to put: all, after the first part, after the second
+      module _ (h : length hits / 2 ≤ left / 14) where
+        fits : length text ≤ length d
+        fits = omega (arith, page_length_is)
+
+        page_all : Todo d (pasted d 0 text) d 0 (ended head ++ (ended what ++ ended (found_lines w hits)))
+        page_all = rw (page_parts w e) (todo d 0 text (omega (arith, fits)))
+
+        pub head_room : 49 ≤ length d
+        head_room = omega (arith, page_all.room, length-append (ended head) (ended what ++ ended (found_lines w hits)), head_length)
+
+        module _ {d1 : List ℕ} (p : d1 ≡ pasted d 0 (ended head)) where
+          what_left : Todo d (pasted d 0 text) d1 49 (ended what ++ ended (found_lines w hits))
+          what_left = step _ _ _ _ _ page_all (ended head) (ended what ++ ended (found_lines w hits)) _ 49 refl p (omega (arith, head_length))
+
+          pub what_room : 49 + length (ended what) ≤ length d1
+          what_room = omega (arith, what_left.room, length-append (ended what) (ended (found_lines w hits)))
+
+          module _ {d2 : List ℕ} {at : ℕ} (q : Puts d1 49 (ended what) d2 at) where
+            found_left : Todo d (pasted d 0 text) d2 at (ended (found_lines w hits))
+            found_left = step _ _ _ _ _ what_left (ended what) (ended (found_lines w hits)) _ _ refl q.space q.next
+
+            pub found_room : at + length (ended (found_lines w hits)) ≤ length d2
+            found_room = found_left.room
+
+            pub page_done : {d3 : List ℕ} {n : ℕ} → Puts d2 at (ended (found_lines w hits)) d3 n → PrintPromise text d (Ok n) d3
+            page_done s =
+                let l : length text ≡ length (ended head) + (length (ended what) + length (ended (found_lines w hits))) =
+                ap length (sym (page_parts w e))
+                ∙ length-append (ended head) (ended what ++ ended (found_lines w hits))
+                ∙ omega (arith, length-append (ended what) (ended (found_lines w hits))) in
+                print_all fits (record { space = s.space ∙ found_left.same; next = omega (arith, s.next, q.next, head_length) })
 
 pub yes_le : (listed : Bool) → length (yes_no listed) ≤ 3
 yes_le true = omega arith
@@ -113,11 +151,3 @@ page_fits client times event listed class hits h e =
 -- so does a refusal of at most four digits
 pub refusal_fits : (number : ℕ) → number ≤ 9999 → length (refused_text number) ≤ page_room
 refusal_fits number h = omega (arith, refused_length number, size_small number h)
-
--- room for some bytes and n lines of 14 bytes, by what the others leave
-pub room_by : (room some left n : ℕ) → some + left ≡ room → leb n (left / 14) ≡ leb (some + 14 * n) room
-room_by room some left n h = by (le_or_lt (left / 14) n)
-  where
-    by : (left / 14 < n) ⊎ (n ≤ left / 14) → leb n (left / 14) ≡ leb (some + 14 * n) room
-    by (inl k) = lt-leb n (left / 14) k ∙ sym (lt-leb (some + 14 * n) room (omega arith))
-    by (inr k) = le-leb n (left / 14) k ∙ sym (le-leb (some + 14 * n) room (omega arith))

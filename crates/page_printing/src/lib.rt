@@ -2,10 +2,10 @@
 // is known by arithmetic before the first is.
 #![tactic(auto)]
 
-ghost use Rattle.std.specs.Prelude.{◌≡◌, ◌∷◌, [], ◌+◌, ◌≤◌, leb, length};
+ghost use Rattle.std.specs.Prelude.{◌≡◌, ◌+◌, ◌<◌, ◌≤◌, length, MatchOption};
 ghost use Rattle.laws.specs.Space.{pasted};
 ghost use Rattle.page_lines.specs.Lines.{text_line};
-ghost use Rattle.page_printing.specs.Page.{line, yes_no, phase_text, ended, page_text, refused_text};
+ghost use Rattle.page_printing.specs.Page.{yes_no, phase_text, ended, page_text, refused_text};
 ghost use Rattle.page_printing.specs.Promise.{PrintPromise};
 ghost use Rattle.page_printing.specs.Steps.{Puts, head_lines, what_lines, found_lines, page_length};
 
@@ -23,24 +23,19 @@ fn put_line(out: &mut [u8], at: usize, word: &[u8], says: &[u8]) -> usize
     at + word.len() + says.len() + 1
 }
 
-fn put_listed(out: &mut [u8], at: usize, listed: bool) -> usize
-    requires { at + length (ended (line "listed=" (yes_no listed) ∷ [])) ≤ length out.old }
-    ensures { Puts out.old at (ended (line "listed=" (yes_no listed) ∷ [])) out.new result }
+fn listed_word(listed: bool) -> &'static [u8]
+    ensures { result.now ≡ yes_no listed }
 {
-    if listed {
-        return put_line(out, at, b"listed=", b"yes");
-    }
-    put_line(out, at, b"listed=", b"no")
+    if listed { b"yes" } else { b"no" }
 }
 
-fn put_phase(out: &mut [u8], at: usize, phase: Phase) -> usize
-    requires { at + length (ended (line "state=" (phase_text phase) ∷ [])) ≤ length out.old }
-    ensures { Puts out.old at (ended (line "state=" (phase_text phase) ∷ [])) out.new result }
+fn phase_word(phase: Phase) -> &'static [u8]
+    ensures { result.now ≡ phase_text phase }
 {
     match phase {
-        Phase::Early => put_line(out, at, b"state=", b"early"),
-        Phase::Live => put_line(out, at, b"state=", b"live"),
-        Phase::Expired => put_line(out, at, b"state=", b"expired"),
+        Phase::Early => b"early",
+        Phase::Live => b"live",
+        Phase::Expired => b"expired",
     }
 }
 
@@ -67,9 +62,9 @@ fn put_what(
     ensures { Puts out.old at (ended (what_lines event.now listed class phase)) out.new result }
 {
     let e = put_line(out, at, b"event=", event);
-    let f = put_listed(out, e, listed);
+    let f = put_line(out, e, b"listed=", listed_word(listed));
     page_lines::put_number(out, f, b"class=", class as usize, 1);
-    put_phase(out, f + 8, phase)
+    put_line(out, f + 8, b"state=", phase_word(phase))
 }
 
 // The lines of the number of hits, in w digits, and of the hits.
@@ -84,41 +79,13 @@ fn put_found(out: &mut [u8], at: usize, w: usize, hits: &[u32]) -> usize
     e + 14 * n
 }
 
-fn listed_len(listed: bool) -> usize
-    ensures { result ≡ length (yes_no listed) }
+// What a page leaves for its lines of 14 bytes whose number of hits has w digits and whose event has so many bytes; nothing where it
+// does not fit without them. Differences, so that no sum runs over.
+fn room_for_hits(room: usize, listed: bool, phase: Phase, w: usize, event: usize) -> Option<usize>
+    ensures { MatchOption result (room < page_length listed phase w event 0) (λ left. page_length listed phase w event 0 + left ≡ room) }
 {
-    if listed {
-        return 3;
-    }
-    2
-}
-
-fn phase_len(phase: Phase) -> usize
-    ensures { result ≡ length (phase_text phase) }
-{
-    match phase {
-        Phase::Early => 5,
-        Phase::Live => 4,
-        Phase::Expired => 7,
-    }
-}
-
-// Whether a page fits whose number of hits has w digits, whose event has so many bytes, and which has n lines of 14 bytes.
-// Differences, so that no sum runs over.
-fn has_room(room: usize, listed: bool, phase: Phase, w: usize, event: usize, n: usize) -> bool
-    ensures { result ≡ leb (page_length listed phase w event n) room }
-{
-    let some = 85 + listed_len(listed) + phase_len(phase);
-    if room < some {
-        return false;
-    }
-    if room - some < w {
-        return false;
-    }
-    if room - some - w < event {
-        return false;
-    }
-    n <= (room - some - w - event) / 14
+    let some = 85 + listed_word(listed).len() + phase_word(phase).len();
+    room.checked_sub(some)?.checked_sub(w)?.checked_sub(event)
 }
 
 // Prints a refusal's one line to the front of out, and says its length; or 13 where it does not fit, and nothing is written.
@@ -146,15 +113,15 @@ pub fn print_page(
 ) -> Result<usize, Refusal>
     ensures { PrintPromise (page_text client times event.now listed class hits.now) out.old result out.new }
 {
-    let issued = times.issued;
-    let until = times.until;
-    let phase = times.phase;
     let n = hits.len() / 2;
     let w = page_lines::size_of(n);
-    if !has_room(out.len(), listed, phase, w, event.len(), n) {
+    let Some(left) = room_for_hits(out.len(), listed, times.phase, w, event.len()) else {
+        return Err(Refusal::NoRoom);
+    };
+    if left / 14 < n {
         return Err(Refusal::NoRoom);
     }
-    put_head(out, client, issued, until);
-    let e = put_what(out, 49, event, listed, class, phase);
+    put_head(out, client, times.issued, times.until);
+    let e = put_what(out, 49, event, listed, class, times.phase);
     Ok(put_found(out, e, w, hits))
 }

@@ -1,20 +1,19 @@
 -- Each line that is read leaves the next to say, from the index that it answers; a malformed one says 23.
-use mathlib.Core.Path.{sym, ap, ◌∙◌}
-use Rattle.input_lines.specs.Answers.{said_now, said_client, said_header}
-use Rattle.page.proofs.Fronts.{front_1, front_2, front_3, front_4}
+use Rattle.std.proofs.Common.{sym}
+use Rattle.page.proofs.Fronts.{three_err, front_1, front_2, front_3, front_4}
 use Rattle.page.proofs.three_lines.Goals as goal
 
-pub returns-in_default : goal.returns-in_default
-returns-in_default c = front_1 _ (sym c.now_line.ensures.says ∙ ap said_now c.in_default.is)
+pub returns-in_err-now : goal.returns-in_err-now
+returns-in_err-now c = three_err _ _ _ c.from_residual.ensures (front_1 _ _ c.in_err-now.ensures.says)
 
-pub returns-in_default-client_line : goal.returns-in_default-client_line
-returns-in_default-client_line c =
-    front_2 _ _ _ (sym c.now_line.ensures.says ∙ ap said_now c.in-At.is) (sym c.client_line.ensures.says ∙ ap said_client c.in_default-client_line.is)
+pub returns-in_err-client : goal.returns-in_err-client
+returns-in_err-client c =
+    three_err _ _ _ c.from_residual-in_err-client.ensures (front_2 _ _ _ (sym c.in_ok-now.ensures.says) _ c.in_err-client.ensures.says)
 
-pub returns-in_default-header_line : goal.returns-in_default-header_line
-returns-in_default-header_line c =
-    front_3 _ _ _ (sym c.now_line.ensures.says ∙ ap said_now c.in-At.is) _ _ (sym c.client_line.ensures.says ∙ ap said_client c.in-Client.is) (sym c.header_line.ensures.says ∙ ap said_header c.in_default-header_line.is)
+pub returns-in_err-header : goal.returns-in_err-header
+returns-in_err-header c =
+    three_err _ _ _ c.from_residual-in_err-header.ensures
+    (front_3 _ _ _ (sym c.in_ok-now.ensures.says) _ _ (sym c.in_ok-client.ensures.says) _ c.in_err-header.ensures.says)
 
 pub returns : goal.returns
-returns c =
-    front_4 _ _ _ (sym c.now_line.ensures.says ∙ ap said_now c.in-At.is) _ _ (sym c.client_line.ensures.says ∙ ap said_client c.in-Client.is) _ _ _ (sym c.header_line.ensures.says ∙ ap said_header c.in-Header.is)
+returns c = front_4 _ _ _ (sym c.in_ok-now.ensures.says) _ _ (sym c.in_ok-client.ensures.says) _ _ _ (sym c.in_ok-header.ensures.says)
