@@ -23,13 +23,7 @@ pub struct Fields {
 fn sender_byte(b: u8) -> bool
     ensures { result ≡ is_sender_byte b }
 {
-    if !codec::between(32, 126, b) {
-        return false;
-    }
-    if b == 45 {
-        return false;
-    }
-    b != 43
+    codec::between(32, 126, b) && b != 45 && b != 43
 }
 
 // Whether bytes are all capital letters, as an event's are.
@@ -50,16 +44,10 @@ pub fn is_sender(b: &[u8]) -> bool
 pub fn is_origin(b: &[u8]) -> bool
     ensures { IsOriginPromise b.now result }
 {
-    if codec::same(b, b"EAS") {
-        return true;
-    }
-    if codec::same(b, b"CIV") {
-        return true;
-    }
-    if codec::same(b, b"WXR") {
-        return true;
-    }
-    codec::same(b, b"PEP")
+    codec::same(b, b"EAS")
+        || codec::same(b, b"CIV")
+        || codec::same(b, b"WXR")
+        || codec::same(b, b"PEP")
 }
 
 // Whether a text can say so, hours and minutes as they are written.
@@ -67,21 +55,10 @@ pub fn is_duration_of(hours: u32, minutes: u32) -> bool
     ensures { IsDurationOfPromise hours minutes result }
 {
     if hours == 0 {
-        if minutes == 15 {
-            return true;
-        }
-        if minutes == 30 {
-            return true;
-        }
-        return minutes == 45;
+        minutes == 15 || minutes == 30 || minutes == 45
+    } else {
+        hours <= 99 && (minutes == 0 || minutes == 30)
     }
-    if 99 < hours {
-        return false;
-    }
-    if minutes == 0 {
-        return true;
-    }
-    minutes == 30
 }
 
 // Whether a text can say so many minutes.
@@ -95,14 +72,5 @@ pub fn is_duration(minutes: u32) -> bool
 pub fn is_issue(day: u32, hour: u32, minute: u32) -> bool
     ensures { IsIssuePromise day hour minute result }
 {
-    if day < 1 {
-        return false;
-    }
-    if 366 < day {
-        return false;
-    }
-    if 23 < hour {
-        return false;
-    }
-    minute <= 59
+    1 <= day && day <= 366 && hour <= 23 && minute <= 59
 }

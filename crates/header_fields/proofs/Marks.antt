@@ -2,11 +2,11 @@
 use Prim.Native.Nat.{ℕ, ◌+◌, ◌-◌, ◌≤◌, ◌<◌}
 use mathlib.Core.Path.{◌≡◌, sym, ◌∙◌}
 use mathlib.Core.List.{List}
-use mathlib.Core.Bool.{Bool, true, false, not}
+use mathlib.Core.Bool.{Bool, true, false}
 use native.Mathlib.Omega.{arith}
-use lib.ListN.{length, get_or, take, drop}
+use lib.ListN.{length, get_or, take, drop, length-drop}
 use lib.Dec.{ltb}
-use borrow.Author.Tests.{not-true, not-false, eq-eqb, ne_eqb, ltb-false}
+use borrow.Author.Tests.{eq-eqb, ne_eqb, lt-ltb, ltb-false}
 use Rattle.std.specs.Prelude.{None}
 use mathlib.Core.Logic.{⊎_elim}
 use Rattle.laws.specs.Lists.{every}
@@ -16,34 +16,21 @@ use Rattle.codec.specs.Kind.{Kind}
 use Rattle.codec.specs.Codec.{got, no, fits, is, field}
 use Rattle.codec.specs.Promise.{number_at}
 use Rattle.codec.proofs.Numbers.{number_none}
-use Rattle.codec.proofs.Fits.{short, bad, unmarked, good, by_mark}
+use Rattle.codec.proofs.Fits.{short, bad, unmarked, good}
 use Rattle.codec.proofs.Stages.{field_no, field_yes}
 use Rattle.header.specs.Header.{dash}
+use Rattle.header_fields.specs.Stands.{StandsBy, few, asked}
+use Rattle.header_fields.specs.Promise.{StandsPromise}
 
 module _ {A : Type 0} (k : Kind A) (t : List ℕ) (at : ℕ) where
-  -- ---- whether there is room for the field and its mark, for any index
+  -- ---- whether it stands there, by a test that answers what is allowed
 
-  pub too_short : length t ≤ k.width → length t - at ≤ k.width
-  too_short h = omega arith
-
-  pub too_late : length t - k.width ≤ at → length t - at ≤ k.width
-  too_late h = omega arith
-
-  pub room : at < length t - k.width → k.width < length t - at
-  room h = omega arith
-
-  -- ---- a test r of the bytes from at to at + width says whether they are allowed
-
-  module _ (r : Bool) (e : r ≡ k.allowed (take (at + k.width - at) (drop at t))) where
-    part : k.allowed (take k.width (drop at t)) ≡ r
-    part = let w : at + k.width - at ≡ k.width = omega arith in sym (rw w at e)
-
-    pub no_fit : not r ≡ true → false ≡ fits k (is dash) (drop at t)
-    no_fit h = sym (bad k (is dash) t at (part ∙ not-true r h))
-
-    -- then the mark decides
-    pub by_dash : at < length t - k.width → not r ≡ false → is dash (get_or t (at + k.width) 0) ≡ fits k (is dash) (drop at t)
-    by_dash l h = by_mark k (is dash) t at (room l) (part ∙ not-false r h)
+  pub stands_as : (Answers : List ℕ → Bool → Type 0)
+      → ((b : Bool) → Answers (take k.width (drop at t)) b → b ≡ k.allowed (take k.width (drop at t)))
+      → {r : Bool} → StandsBy k.width Answers t at r → StandsPromise k t at r
+  unfolding fits
+  stands_as Answers means (few h e) = record { says = e ∙ sym (short k (is dash) t at (omega (arith, length-drop at t))) }
+  stands_as Answers means (asked b l a e) = record { says = e ∙ simp (lt-ltb k.width (length (drop at t)) l, means b a) }
 
   -- ---- what the field of the table says
 

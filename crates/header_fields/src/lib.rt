@@ -1,8 +1,10 @@
 // One field of a header text and the mark behind it, at index at of the text.
 #![tactic(auto)]
 
+ghost use Rattle.std.specs.Fn.{FnReturnsAt};
 ghost use Rattle.header.specs.Header.{start, origin, event, sender};
 ghost use Rattle.header_fields.specs.Promise.{StandsPromise, PlaceAtPromise, MinutesAtPromise, IssueAtPromise};
+ghost use Rattle.header_fields.specs.Stands.{StandsBy};
 
 use refusals::Refusal;
 
@@ -14,76 +16,43 @@ pub struct Issue {
     pub minute: u32,
 }
 
+// Whether so many bytes that are allowed stand there, and the mark `-` behind them.
+fn stands_at<F: Fn(&[u8]) -> bool>(text: &[u8], at: usize, width: usize, allows: F) -> bool
+    requires { F.IsAlwaysCallable allows }
+    ensures { StandsBy width (FnReturnsAt F.Fn allows) text.now at result }
+{
+    match text.get(at..) {
+        Some(rest) if width < rest.len() => allows(&rest[..width]) && rest[width] == 45,
+        _ => false,
+    }
+}
+
 // Whether ZCZC and its mark stand there.
 pub fn start_at(text: &[u8], at: usize) -> bool
     ensures { StandsPromise start text.now at result }
 {
-    let n = text.len();
-    if n <= 4 {
-        return false;
-    }
-    if n - 4 <= at {
-        return false;
-    }
-    let e = at + 4;
-    if !codec::same(&text[at..e], b"ZCZC") {
-        return false;
-    }
-    text[e] == 45
+    stands_at(text, at, 4, |b| codec::same(b, b"ZCZC"))
 }
 
 // Whether an origin and its mark stand there.
 pub fn origin_at(text: &[u8], at: usize) -> bool
     ensures { StandsPromise origin text.now at result }
 {
-    let n = text.len();
-    if n <= 3 {
-        return false;
-    }
-    if n - 3 <= at {
-        return false;
-    }
-    let e = at + 3;
-    if !header::is_origin(&text[at..e]) {
-        return false;
-    }
-    text[e] == 45
+    stands_at(text, at, 3, header::is_origin)
 }
 
 // Whether an event and its mark stand there.
 pub fn event_at(text: &[u8], at: usize) -> bool
     ensures { StandsPromise event text.now at result }
 {
-    let n = text.len();
-    if n <= 3 {
-        return false;
-    }
-    if n - 3 <= at {
-        return false;
-    }
-    let e = at + 3;
-    if !header::is_event(&text[at..e]) {
-        return false;
-    }
-    text[e] == 45
+    stands_at(text, at, 3, header::is_event)
 }
 
 // Whether a sender and its mark stand there.
 pub fn sender_at(text: &[u8], at: usize) -> bool
     ensures { StandsPromise sender text.now at result }
 {
-    let n = text.len();
-    if n <= 8 {
-        return false;
-    }
-    if n - 8 <= at {
-        return false;
-    }
-    let e = at + 8;
-    if !header::is_sender(&text[at..e]) {
-        return false;
-    }
-    text[e] == 45
+    stands_at(text, at, 8, header::is_sender)
 }
 
 // The code of the place that stands there with either mark, and the index after its mark.

@@ -8,7 +8,7 @@ use native.Mathlib.Omega.{arith}
 use lib.ListN.{length, get_or, drop}
 use lib.Seq.{drop-cons, drop-length}
 use lib.Dec.{eqb}
-use borrow.Author.Tests.{eq-eqb, ne_eqb, eqb-true}
+use borrow.Author.Tests.{eq-eqb, eqb-true}
 use Rattle.std.specs.List.{list_all}
 use Rattle.laws.specs.Lists.{every, same}
 use Rattle.laws.proofs.Tests.{impossible}
@@ -81,31 +81,3 @@ differ (x ∷ xs) (y ∷ ys) h = go (eqb x y) (differ xs ys (λ e. h (ap suc e))
     go : (t : Bool) → same xs ys ≡ false → t && same xs ys ≡ false
     go true e = e
     go false e = refl
-
--- the loop: what is left of both says what the whole of both says
-pub record Both (a b : List ℕ) (k : ℕ) : Type 0 where
-  pub long : length a ≡ length b
-  pub low : k ≤ length a
-  pub all : same (drop k a) (drop k b) ≡ same a b
-
-module _ (a b : List ℕ) where
-  cut2 : (k : ℕ) → length a ≡ length b → k < length a → same (drop k a) (drop k b) ≡ eqb (get_or a k 0) (get_or b k 0) && same (drop (k + 1) a) (drop (k + 1) b)
-  cut2 k l h =
-      let g : k < length b = omega arith in
-      let ea : drop k a ≡ get_or a k 0 ∷ drop (k + 1) a = drop-cons a k 0 h ∙ rw add-one in
-      let eb : drop k b ≡ get_or b k 0 ∷ drop (k + 1) b = drop-cons b k 0 g ∙ rw add-one in
-      simp (ea, eb)
-
-  pub both_passed : (k : ℕ) → k < length a → get_or a k 0 ≡ get_or b k 0 → Both a b k → Both a b (k + 1)
-  both_passed k h t l = record { long = l.long; low = omega arith; all = sym (cut2 k l.long h ∙ simp (eq-eqb _ _ t)) ∙ l.all }
-
-  pub both_failed : (k : ℕ) → k < length a → (get_or a k 0 ≡ get_or b k 0 → ⊥) → Both a b k → same a b ≡ false
-  both_failed k h t l = sym l.all ∙ cut2 k l.long h ∙ simp (ne_eqb _ _ t)
-
-  pub both_ended : (k : ℕ) → length a ≤ k → Both a b k → same a b ≡ true
-  both_ended k h l =
-      let ea : k ≡ length a = omega (arith, l.low) in
-      let eb : k ≡ length b = omega (arith, l.low, l.long) in
-      let da : drop k a ≡ [] = ap (λ (m : ℕ). drop m a) ea ∙ drop-length a in
-      let db : drop k b ≡ [] = ap (λ (m : ℕ). drop m b) eb ∙ drop-length b in
-      sym l.all ∙ simp (da, db)

@@ -6,16 +6,10 @@ use native.Mathlib.Numerals.{add-one}
 use native.Mathlib.Nat.{suc-add, zero-add}
 use native.Mathlib.Omega.{arith}
 use lib.ListN.{length, get_or, take, drop, length-drop}
-use lib.Seq.{drop-cons, get_or-take, get_or-drop, length-take-le, drop-drop, take-take, take-nil}
+use lib.Seq.{drop-cons, length-take-le, drop-drop, take-take, take-nil}
 
 pub length_part : (t : List ℕ) (at w : ℕ) → at + w ≤ length t → length (take w (drop at t)) ≡ w
 length_part t at w h = length-take-le w (drop at t) (omega (arith, length-drop at t))
-
--- the next entry of a part
-pub part_cut : (t : List ℕ) (at w k : ℕ) → at + w ≤ length t → k < w → drop k (take w (drop at t)) ≡ get_or t (at + k) 0 ∷ drop (k + 1) (take w (drop at t))
-part_cut t at w k h l =
-    drop-cons (take w (drop at t)) k 0 (omega (arith, length_part t at w h))
-    ∙ rw (add-one, get_or-take, get_or-drop)
 
 -- a part, its first entry first
 pub part_cons : (t : List ℕ) (at w : ℕ) → at < length t → take (suc w) (drop at t) ≡ get_or t at 0 ∷ take w (drop (at + 1) t)

@@ -61,6 +61,11 @@ pub record Todo (d₀ whole d : List ℕ) (at : ℕ) (s : List ℕ) : Type 0 whe
 pub todo : (d : List ℕ) (at : ℕ) (s : List ℕ) → at + length s ≤ length d → Todo d (pasted d at s) d at s
 todo d at s h = record { len = refl; room = h; same = refl }
 
+-- a part that was written over, as a goal shows it
+pub pasted_mid : (d : List ℕ) (at k : ℕ) (s r : List ℕ) → k ≡ length s → r ≡ s → put_mid at k d r ≡ pasted d at s
+unfolding pasted
+pasted_mid d at k s r n e = rw (n, e) (ap (λ (l : List ℕ). take at d ++ (s ++ l)) (drop-drop (length s) at d))
+
 module _ (d₀ whole d : List ℕ) (at : ℕ) (s : List ℕ) (t : Todo d₀ whole d at s) where
   pub step : (x r d' : List ℕ) (at' : ℕ) → s ≡ x ++ r → d' ≡ pasted d at x → at' ≡ at + length x → Todo d₀ whole d' at' r
   step x r d' at' e p i =

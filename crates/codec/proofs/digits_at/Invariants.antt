@@ -1,16 +1,16 @@
 -- What the bytes that are left say, from the number so far, is what all of them say.
-use Prim.Native.Nat.{ℕ, ◌-◌, ◌^◌, ◌≤◌, ◌<◌}
+use Prim.Native.Nat.{ℕ, ◌^◌, ◌≤◌, ◌<◌}
 use mathlib.Core.Path.{◌≡◌}
 use mathlib.Core.List.{List}
 use native.Mathlib.Nat.{pow-le-pow_right}
 use native.Mathlib.Omega.{arith}
-use lib.ListN.{take, drop}
+use lib.ListN.{length, drop}
 use Rattle.laws.specs.Lists.{every}
 use Rattle.laws.specs.Numbers.{digit, dec_from}
 use Rattle.codec.proofs.digits_at.Given as goal
 
-pub record Left (b : List ℕ) (w n k : ℕ) : Type 0 where
-  pub low : k ≤ w
+pub record Left (b : List ℕ) (n k : ℕ) : Type 0 where
+  pub low : k ≤ length b
   pub small : n < 10 ^ k
   pub all : every digit (drop k b) ≡ every digit b
   pub dec : dec_from n (drop k b) ≡ dec_from 0 b
@@ -19,8 +19,5 @@ pub record Left (b : List ℕ) (w n k : ℕ) : Type 0 where
 pub small : (k w n : ℕ) → k < w → w ≤ 9 → n < 10 ^ k → n < 100000000
 small k w n h l s = omega (arith, pow-le-pow_right {n = 10} (omega arith) {i = k} {j = 8} (omega arith))
 
-abbrev pub invariant-loop-k : goal.invariant-loop-k
-invariant-loop-k l = Left (take l.width (drop l.at l.text)) l.width l.n l.k
-
-abbrev pub decreases-loop-k : goal.decreases-loop-k
-decreases-loop-k l = l.width - l.k
+abbrev pub invariant-loop-b : goal.invariant-loop-b
+invariant-loop-b l = Left l.b-items l.n l.b-index

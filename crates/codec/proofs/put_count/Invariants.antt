@@ -4,6 +4,3 @@ use Rattle.codec.proofs.put_count.Given as goal
 
 abbrev pub invariant-loop-k : goal.invariant-loop-k
 invariant-loop-k l = Digits l.initial.out l.out l.at l.width l.n l.k l.v
-
-abbrev pub decreases-loop-k : goal.decreases-loop-k
-decreases-loop-k l = l.k

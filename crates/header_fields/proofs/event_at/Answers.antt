@@ -1,28 +1,16 @@
--- Room, the bytes and the mark are tested in this order, and each test that fails says that the field does not stand there.
-use mathlib.Core.Path.{sym}
-use Rattle.codec.specs.Codec.{is}
-use Rattle.codec.proofs.Fits.{short}
-use Rattle.header.specs.Header.{event, dash}
-use Rattle.header_fields.proofs.Marks.{too_short, too_late, no_fit, by_dash}
+-- The test that is passed says what is allowed.
+use Prim.Native.Nat.{ℕ}
+use mathlib.Core.Path.{◌≡◌, ap, ◌∙◌}
+use mathlib.Core.Bool.{Bool}
+use mathlib.Core.List.{List}
+use Rattle.std.proofs.Common.{rules, tests}
+use Rattle.header.specs.Header.{event, is_event}
+use Rattle.header.specs.Promise.{IsEventPromise}
+use Rattle.header_fields.proofs.Marks.{stands_as}
 use Rattle.header_fields.proofs.event_at.Goals as goal
 
-pub returns-then-n-le3 : goal.returns-then-n-le3
-returns-then-n-le3 c =
-    let a = c.args in
-    record { says = sym (short event (is dash) a.text.now a.at (too_short event a.text.now a.at c.if-n-le3.true)) }
-
-pub returns-then-n-at : goal.returns-then-n-at
-returns-then-n-at c =
-    let a = c.args in
-    record { says = sym (short event (is dash) a.text.now a.at (too_late event a.text.now a.at c.if-n-at.true)) }
-
-pub returns-then-not-is_event : goal.returns-then-not-is_event
-returns-then-not-is_event c =
-    let a = c.args in
-    record { says = no_fit event a.text.now a.at c.is_event.result c.is_event.ensures.says c.if-not-is_event.true-raw }
+says : {b x : List ℕ} {r : Bool} → IsEventPromise b r → b ≡ x → r ≡ is_event x
+says p e = p.says ∙ ap is_event e
 
 pub returns : goal.returns
-returns c =
-    let a = c.args in
-    let test = c.is_event in
-    record { says = by_dash event a.text.now a.at test.result test.ensures.says c.if-n-at.false c.if-not-is_event.false-raw }
+returns c = stands_as event c.args.text.now c.args.at _ (λ b k. search (rules, tests, says)) c.stands_at.ensures
