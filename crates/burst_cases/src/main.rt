@@ -6,7 +6,6 @@
 // or 6 turned. With bit 7 turned it is `+`, which stands for itself. So no name of a case has one of these marks.
 #![tactic(auto)]
 
-use burst::VoteAnswer;
 use refusals::Refusal;
 use std::io;
 use std::io::Write;
@@ -33,89 +32,59 @@ fn marked(b: u8) -> u8 {
     exchange(b, &PREAMBLES, &MARKS)
 }
 
-fn say<W: Write>(out: &mut W, text: &[u8]) -> io::Result<()> {
-    out.write_all(text)
-}
-
 // Bytes as they are written in the input.
 fn show<W: Write>(out: &mut W, bytes: &[u8]) -> io::Result<()> {
     for b in bytes {
-        say(out, &[marked(*b)])?;
+        out.write_all(&[marked(*b)])?;
     }
     Ok(())
-}
-
-// A word, and a number after it.
-fn tell<W: Write>(out: &mut W, text: &[u8], n: usize) -> io::Result<()> {
-    say(out, text)?;
-    write!(out, "{n}")
 }
 
 // How many bytes are dropped, and the part that is left.
 fn strip<W: Write>(out: &mut W, burst: &[u8]) -> io::Result<()> {
-    tell(out, b": leading=", burst::leading(burst))?;
     let part = burst::strip(burst);
-    tell(out, b" left=", part.len())?;
-    say(out, b" part=")?;
+    write!(
+        out,
+        ": leading={} left={} part=",
+        burst::leading(burst),
+        part.len()
+    )?;
     show(out, part)
 }
 
+// The text's length; or a number, and the index that is named beside it, if one is.
 fn settled<W: Write>(out: &mut W, voted: Result<usize, Refusal>) -> io::Result<()> {
     match voted {
-        Ok(n) => tell(out, b": text=", n),
-        Err(why) => refused(out, why),
+        Ok(n) => write!(out, ": text={n}"),
+        Err(why) => {
+            write!(out, ": refused={}", why.number())?;
+            if let Some(index) = why.index() {
+                write!(out, " at={index}")?;
+            }
+            Ok(())
+        }
     }
 }
 
-// A number, and the index that is named beside it, if one is.
-fn refused<W: Write>(out: &mut W, why: Refusal) -> io::Result<()> {
-    tell(out, b": refused=", why.number() as usize)?;
-    match why.index() {
-        Some(index) => tell(out, b" at=", index),
-        None => Ok(()),
-    }
-}
-
-// What was settled, and how many bytes were dropped of each burst.
-fn answer<W: Write>(out: &mut W, said: VoteAnswer) -> io::Result<()> {
-    settled(out, said.voted)?;
-    tell(out, b" dropped=", said.first)?;
-    tell(out, b" ", said.second)?;
-    tell(out, b" ", said.third)
-}
-
+// What was settled, and how many bytes were dropped of each burst; then the space lent.
 fn vote<W: Write>(out: &mut W, a: &[u8], b: &[u8], c: &[u8], space: &mut [u8]) -> io::Result<()> {
-    answer(out, burst::vote(a, b, c, space))?;
-    say(out, b" space=")?;
+    let said = burst::vote(a, b, c, space);
+    settled(out, said.voted)?;
+    write!(
+        out,
+        " dropped={} {} {} space=",
+        said.first, said.second, said.third
+    )?;
     show(out, space)
 }
 
 // A vote with the first bytes of a space lent, so many as are asked for.
-fn vote_in<W: Write>(
-    out: &mut W,
-    a: &[u8],
-    b: &[u8],
-    c: &[u8],
-    space: &mut [u8],
-    room: usize,
-) -> io::Result<()> {
-    if room <= space.len() {
-        vote(out, a, b, c, &mut space[..room])?;
-    }
-    Ok(())
-}
-
 fn vote_case<W: Write>(out: &mut W, line: &[u8]) -> io::Result<()> {
     let mut space = [b'.'; 252];
-    let lent = room(part(line, 4));
-    vote_in(
-        out,
-        part(line, 1),
-        part(line, 2),
-        part(line, 3),
-        &mut space,
-        lent,
-    )
+    match space.get_mut(..room(part(line, 4))) {
+        Some(lent) => vote(out, part(line, 1), part(line, 2), part(line, 3), lent),
+        None => Ok(()),
+    }
 }
 
 // Part k of a line, which is empty where the line has fewer.
@@ -136,13 +105,13 @@ fn room(digits: &[u8]) -> usize {
 }
 
 fn case<W: Write>(out: &mut W, line: &[u8]) -> io::Result<()> {
-    say(out, part(line, 0))?;
+    out.write_all(part(line, 0))?;
     if is_one(line) {
         strip(out, part(line, 1))?;
     } else {
         vote_case(out, line)?;
     }
-    say(out, b"\n")
+    out.write_all(b"\n")
 }
 
 fn cases<W: Write>(out: &mut W, input: &[u8]) -> io::Result<()> {

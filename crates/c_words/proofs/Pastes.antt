@@ -1,5 +1,5 @@
 -- Words pasted group by group, and fields that were read handed on.
-use Prim.Native.Nat.{ℕ, ◌+◌, ◌*◌, ◌≤◌, ◌<◌}
+use Prim.Native.Nat.{ℕ, ◌+◌, ◌≤◌, ◌<◌}
 use mathlib.Core.Path.{◌≡◌, refl, sym, ap, ◌∙◌, subst}
 use mathlib.Core.Bool.{Bool, true, false}
 use mathlib.Core.List.{List, ◌++◌}
@@ -16,11 +16,10 @@ use Rattle.std.specs.Prelude.{Result, Ok, Err}
 use Rattle.refusals.specs.Refusals.{says, said}
 use Rattle.refusals.specs.declared.Refusal.{Refusal}
 use Rattle.refusals.specs.declared.Refusal.TheVariants.{NoRoom}
-use Rattle.refusals.proofs.Said.{next_refused, leaves_refused, says_moved}
+use Rattle.refusals.proofs.Said.{next_refused, leaves_refused}
 use Rattle.header.specs.Answers.{fields_of}
 use Rattle.header.specs.Promise.{WritePromise}
 use Rattle.header.specs.declared.Fields.{Fields}
-use Rattle.header.proofs.Callers.{IsRead}
 use Rattle.c_words.specs.Words.{fields_in, numbers_of, front_words, back_words, words_of}
 use Rattle.c_words.specs.Says.{fields_say, text_says}
 use Rattle.c_words.specs.Steps.{Gives, ReadsFields, WritesFields}

@@ -8,7 +8,6 @@ use lib.Dec.{ltb}
 use borrow.Author.Tests.{lt-ltb, le-ltb}
 use Rattle.laws.specs.Order.{Said, granted, refused, refused_at, choose, in_order, next}
 use Rattle.laws.specs.Space.{pasted, leaves}
-use Rattle.laws.proofs.Clash.{clash}
 use Rattle.laws.proofs.Next.{next_granted}
 use Rattle.clock.specs.declared.Clock.{Clock}
 use Rattle.clock.specs.Clock.{has_day, is_clock}

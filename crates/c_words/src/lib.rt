@@ -138,7 +138,9 @@ pub fn read_words(text: &[u8], fields: &mut [u32]) -> u64
 fn write_fields(fields: &[u32], out: &mut [u8]) -> Result<usize, Refusal>
     ensures { WritesFields fields.now out.old result out.new }
 {
-    let words = fields.first_chunk::<50>().ok_or(Refusal::NoRoom)?;
+    let Some(words) = fields.first_chunk::<50>() else {
+        return Err(Refusal::NoRoom);
+    };
     header_writing::write(fields_in(words), out)
 }
 

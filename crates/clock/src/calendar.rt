@@ -17,26 +17,15 @@ fn is_leap(year: u32) -> bool
 pub(crate) fn days_in(year: u32) -> u32
     ensures { result ≡ days_in year }
 {
-    if is_leap(year) {
-        return 366;
-    }
-    365
+    if is_leap(year) { 366 } else { 365 }
 }
 
 // Whether a day exists in a year.
+#[tactic(auto, unfolding(crate::specs::Clock::has_day))]
 pub(crate) fn has_day(year: u32, day: u32) -> bool
     ensures { result ≡ has_day year day }
 {
-    if day < 1 {
-        return false;
-    }
-    day <= days_in(year)
-}
-
-fn wide(x: u16) -> u32
-    ensures { result ≡ x }
-{
-    x as u32
+    1 <= day && day <= days_in(year)
 }
 
 // Entry i of the calendar.
@@ -53,13 +42,7 @@ fn entry_of(year: u32, day: u32) -> usize
     ensures { Entry year day result }
 {
     let i = day as usize;
-    if is_leap(year) {
-        return i - 1;
-    }
-    if i < 60 {
-        return i - 1;
-    }
-    i
+    if is_leap(year) || i < 60 { i - 1 } else { i }
 }
 
 // Month and day of a day that the year has. One look at the calendar.
@@ -67,7 +50,7 @@ pub(crate) fn date_in(year: u32, day: u32) -> MonthDay
     requires { has_day year day ≡ true }
     ensures { result ≡ date_of year day }
 {
-    let x = wide(entry(entry_of(year, day)));
+    let x = u32::from(entry(entry_of(year, day)));
     MonthDay {
         month: x / 32,
         day: x % 32,

@@ -1,13 +1,11 @@
 // The clock, the calendar, and when a header was issued, runs out and is live.
 #![tactic(auto)]
 
-ghost use Rattle.std.specs.Prelude.{◌≡◌, true, ◌<◌, ◌≤◌};
+ghost use Rattle.std.specs.Prelude.{◌≡◌, true, ◌<◌};
 ghost use Rattle.clock.specs.Clock.{has_day, is_clock};
-ghost use Rattle.clock.specs.Lifetime.{year_of, minute_of, phase_of, time_in, stamp_of, times_of};
-ghost use Rattle.clock.specs.Answers.{asked};
+ghost use Rattle.clock.specs.Lifetime.{minute_of, phase_of, time_in, stamp_of, times_of};
 ghost use Rattle.clock.specs.Promise.{CheckPromise, DatePromise, LifetimePromise, TimesPromise};
-ghost use Rattle.clock.specs.Steps.{Fit, OfYear, Minute};
-ghost use Rattle.refusals.specs.Refusals.{said};
+ghost use Rattle.clock.specs.Steps.{Fit, Issued, OfYear, Minute};
 
 use calendar::{date_in, days_in, has_day};
 use refusals::Refusal;
@@ -55,34 +53,20 @@ pub struct Times {
 }
 
 // Whether a clock is in range.
+#[tactic(auto, unfolding(crate::specs::Clock::is_clock))]
 fn is_clock(at: Clock) -> bool
     ensures { result ≡ is_clock at }
 {
-    if at.year < 1996 {
-        return false;
-    }
-    if 2099 < at.year {
-        return false;
-    }
-    if !has_day(at.year, at.day) {
-        return false;
-    }
-    if 23 < at.hour {
-        return false;
-    }
-    at.minute <= 59
+    1996 <= at.year
+        && at.year <= 2099
+        && has_day(at.year, at.day)
+        && at.hour <= 23
+        && at.minute <= 59
 }
 
-// The year that a header is taken to be of.
-fn year_of(at: Clock, day: u32, hour: u32, minute: u32) -> u32
-    ensures { result ≡ year_of at day hour minute }
-{
-    at.year
-}
-
-// Why a header's fields are refused at a clock: the first number that holds.
-fn refusal(at: Clock, day: u32, hour: u32, minute: u32, duration: u32) -> Result<(), Refusal>
-    ensures { said result ≡ asked at day hour minute duration }
+// The issue that a header's fields say at a clock, whose year it is taken to be of: or 15, 9, 10, 14.
+fn issued(at: Clock, day: u32, hour: u32, minute: u32, duration: u32) -> Result<Clock, Refusal>
+    ensures { Issued at day hour minute duration result }
 {
     check(at)?;
     if !header::is_duration(duration) {
@@ -91,18 +75,23 @@ fn refusal(at: Clock, day: u32, hour: u32, minute: u32, duration: u32) -> Result
     if !header::is_issue(day, hour, minute) {
         return Err(Refusal::BadIssue);
     }
-    if !has_day(year_of(at, day, hour, minute), day) {
+    if !has_day(at.year, day) {
         return Err(Refusal::NoSuchDay);
     }
-    Ok(())
+    Ok(Clock {
+        year: at.year,
+        day,
+        hour,
+        minute,
+    })
 }
 
 // Minutes from the start of the year.
-fn minute_of(day: u32, hour: u32, minute: u32) -> u32
-    requires { OfYear day hour minute }
-    ensures { Minute day hour minute result }
+fn minute_of(t: Clock) -> u32
+    requires { OfYear t.day t.hour t.minute }
+    ensures { Minute t.day t.hour t.minute result }
 {
-    (day - 1) * 1440 + (hour * 60 + minute)
+    (t.day - 1) * 1440 + (t.hour * 60 + t.minute)
 }
 
 // Whether a header is early, live or expired, all counted from one start. Differences, so that no sum runs over.
@@ -126,7 +115,7 @@ fn phase_at(at: Clock, issue: u32, duration: u32) -> Phase
     requires { is_clock at ≡ true }
     ensures { result ≡ phase_of issue duration (minute_of at.day at.hour at.minute) }
 {
-    phase_of(issue, duration, minute_of(at.day, at.hour, at.minute))
+    phase_of(issue, duration, minute_of(at))
 }
 
 // Day, hour and minute of the minutes from the start of a year, which may fall in the following year.
@@ -176,26 +165,21 @@ fn stamp_in(year: u32, minutes: u32) -> Stamp
     stamp_of(time_in(year, minutes))
 }
 
-// The times of a header for which nothing is refused.
-fn times_at(at: Clock, day: u32, hour: u32, minute: u32, duration: u32) -> Times
-    requires { Fit at day hour minute duration }
-    ensures { result ≡ times_of at day hour minute duration }
+// The times of a header for which nothing is refused. Its minute is counted once, for the end and for the phase.
+fn times_at(at: Clock, issue: Clock, duration: u32) -> Times
+    requires { Fit at issue.day issue.hour issue.minute duration × (issue.year ≡ at.year) }
+    ensures { result ≡ times_of at issue.day issue.hour issue.minute duration }
 {
-    let year = year_of(at, day, hour, minute);
-    let issue = minute_of(day, hour, minute);
+    let start = minute_of(issue);
     Times {
-        issued: stamp_of(Clock {
-            year,
-            day,
-            hour,
-            minute,
-        }),
-        until: stamp_in(year, issue + duration),
-        phase: phase_at(at, issue, duration),
+        issued: stamp_of(issue),
+        until: stamp_in(issue.year, start + duration),
+        phase: phase_at(at, start, duration),
     }
 }
 
 // Whether a clock is in range: or 15.
+#[tactic(auto, unfolding(crate::specs::Answers::clock_says))]
 pub fn check(at: Clock) -> Result<(), Refusal>
     ensures { CheckPromise at result }
 {
@@ -206,6 +190,7 @@ pub fn check(at: Clock) -> Result<(), Refusal>
 }
 
 // Month and day of a day of a year: or 14, where the year lacks it.
+#[tactic(auto, unfolding(crate::specs::Answers::date_says))]
 pub fn date_of(year: u32, day: u32) -> Result<MonthDay, Refusal>
     ensures { DatePromise year day result }
 {
@@ -225,11 +210,11 @@ pub fn lifetime(
 ) -> Result<Phase, Refusal>
     ensures { LifetimePromise at day hour minute duration result }
 {
-    refusal(at, day, hour, minute, duration)?;
-    Ok(phase_at(at, minute_of(day, hour, minute), duration))
+    let issue = issued(at, day, hour, minute, duration)?;
+    Ok(phase_at(at, minute_of(issue), duration))
 }
 
-// When a header was issued and runs out, and its phase at a clock: or 15, 9, 10, 14. No minute is computed twice.
+// When a header was issued and runs out, and its phase at a clock: or 15, 9, 10, 14.
 pub fn times_of(
     at: Clock,
     day: u32,
@@ -239,6 +224,6 @@ pub fn times_of(
 ) -> Result<Times, Refusal>
     ensures { TimesPromise at day hour minute duration result }
 {
-    refusal(at, day, hour, minute, duration)?;
-    Ok(times_at(at, day, hour, minute, duration))
+    let issue = issued(at, day, hour, minute, duration)?;
+    Ok(times_at(at, issue, duration))
 }

@@ -24,12 +24,14 @@ use Rattle.book_history.proofs.Run.{afresh_answers}
 use Rattle.book_history.proofs.Proved.{form_book_and_history}
 use Rattle.report.specs.Hits.{is_of, pairs}
 use Rattle.report.specs.Report.{Full, summary_of, report_says}
-use Rattle.report.specs.Answers.{answer_of}
+use Rattle.std.specs.Prelude.{Result, Ok}
+use Rattle.refusals.specs.declared.Refusal.{Refusal}
+use Rattle.refusals.proofs.NoChoice.{said_one}
+use Rattle.report.specs.Answers.{answer_says, HasHits}
+use Rattle.report.specs.declared.Summary.{Summary}
 use Rattle.report.specs.Exact.{wanted}
 use Rattle.report.specs.Own.{Agree}
 use Rattle.report.specs.Promise.{writes_hits, ReportPromise}
-use Rattle.report.specs.declared.ReportAnswer.{ReportAnswer}
-use Rattle.report.specs.declared.ReportVerdict.TheVariants.{Granted}
 use Rattle.report.proofs.Exact.{lists, nothing_hit}
 use Rattle.report.proofs.Own.{same_report, own_client}
 use Rattle.page.proofs.Own.{page_own_only}
@@ -76,8 +78,8 @@ the_history = record {
 
 -- ---- reports
 
-hits_told : (at : Clock) (a : Alert) (hits : List Sub) → (answer_of (granted (record { summary = summary_of at a hits; hits = hits }))).summary.hits ≡ length hits
-unfolding answer_of summary_of
+hits_told : (at : Clock) (a : Alert) (hits : List Sub) → (summary_of at a hits).hits ≡ length hits
+unfolding summary_of
 hits_told at a hits = refl
 
 -- no hits, no words
@@ -86,27 +88,26 @@ unfolding pairs
 pastes_none [] out e = pasted_nil out 0
 pastes_none (x ∷ hits) out e = absurd (omega arith)
 
-module _ (run : List Edit) (book : List ℕ) (client : ℕ) (text : List ℕ) (a : Alert) (at : Clock) (out : List ℕ) (r : ReportAnswer) (left : List ℕ)
+module _ (run : List Edit) (book : List ℕ) (client : ℕ) (text : List ℕ) (a : Alert) (at : Clock) (out : List ℕ) (r : Result Summary Refusal) (left : List ℕ)
     (c : Called empty run book) (p : ReportPromise book client text at out r left)
     (someone : bad_client client ≡ false) (reads : read_says text ≡ granted a) (clock : is_clock at ≡ true)
     (day : has_day (year_of at a.day a.hour a.minute) a.day ≡ true) where
   exact : 2 * tally (wanted client a) (standing run) ≤ length out → ReportIs (standing run) book client a text at out r left
   exact fits =
       let l = lists (standing run) book (fresh run book c) client text a at out someone reads clock day fits in
-      let s : r ≡ answer_of (granted (record { summary = summary_of at a l.hits; hits = l.hits })) = p.says ∙ ap answer_of l.says in
+      let s : r ≡ Ok (summary_of at a l.hits) = said_one r (Ok (summary_of at a l.hits)) (p.says ∙ ap answer_says l.says) in
       record {
         lists = l;
         says = s;
-        count = ap (λ (x : ReportAnswer). x.summary.hits) s ∙ hits_told at a l.hits ∙ l.count;
+        count = (summary_of at a l.hits, s, hits_told at a l.hits ∙ l.count);
         lent = p.lent ∙ l.leaves_pairs;
       }
 
-  none : tally (is_of client) (standing run) ≡ 0 → (r.verdict ≡ Granted) × (r.summary.hits ≡ 0) × (left ≡ out)
-  unfolding answer_of
+  none : tally (is_of client) (standing run) ≡ 0 → HasHits 0 r × (left ≡ out)
   none e =
       let z : tally (wanted client a) (standing run) ≡ 0 = nothing_hit (standing run) client a e in
       let k = exact (omega arith) in
-      (ap (λ (x : ReportAnswer). x.verdict) k.says, k.count ∙ z, k.lent ∙ pastes_none k.lists.hits out (k.lists.count ∙ z))
+      ((k.count.0, k.count.1, k.count.2 ∙ z), k.lent ∙ pastes_none k.lists.hits out (k.lists.count ∙ z))
 
 pub reports : Reports
 reports = record { report_exact = exact; nothing = none }
@@ -118,11 +119,11 @@ module _ (client : ℕ) (h k : List Edit) (b c : List ℕ) (p : Called empty h b
   own_only : (text : List ℕ) (at : Clock) (room : ℕ) → report_says b client text at room ≡ report_says c client text at room
   own_only = same_report (is_of client) client (own_client client) (standing h) (standing k) b c (fresh h b p) (fresh k c q) agree
 
-  own_only_answer : (text : List ℕ) (at : Clock) (out : List ℕ) (r s : ReportAnswer) (left rest : List ℕ)
+  own_only_answer : (text : List ℕ) (at : Clock) (out : List ℕ) (r s : Result Summary Refusal) (left rest : List ℕ)
       → ReportPromise b client text at out r left → ReportPromise c client text at out s rest → (r ≡ s) × (left ≡ rest)
   own_only_answer text at out r s left rest x y =
       let e = own_only text at (length out) in
-      (x.says ∙ ap answer_of e ∙ sym y.says, x.lent ∙ ap (λ (o : Said Full). leaves writes_hits o out) e ∙ sym y.lent)
+      (said_one r s (x.says ∙ ap answer_says e ∙ sym y.says), x.lent ∙ ap (λ (o : Said Full). leaves writes_hits o out) e ∙ sym y.lent)
 
 pub nobody_else : OwnOnly
 nobody_else = record { own_only = own_only; own_only_answer = own_only_answer }

@@ -25,18 +25,17 @@ use Rattle.book_rules.specs.History.{Edit, adds, removes, answer, after, stands_
 use Rattle.book_rules.proofs.Form.{form_laws}
 use Rattle.book_history.proofs.Run.{afresh_after}
 use Rattle.book_history.proofs.Proved.{form_book_and_history}
-use Rattle.book_edits.specs.Answer.{said_edited}
+use Rattle.std.specs.Prelude.{Result, Ok}
+use Rattle.refusals.specs.Refusals.{said}
+use Rattle.refusals.specs.declared.Refusal.{Refusal}
 use Rattle.book_edits.specs.Promise.{AddPromise, RemovePromise}
 use Rattle.book_edits.specs.Promise.{LoadPromise}
-use Rattle.book_edits.specs.declared.Edited.{Edited}
-use Rattle.book_edits.specs.declared.Edited.TheVariants.{Done}
 use Rattle.book_edits.proofs.Impostors.{adds_first, removes_last}
 use Rattle.report.specs.Hits.{has_class, matching, is_hit}
-use Rattle.report.specs.Answers.{answer_of}
+use Rattle.report.specs.Answers.{HasHits}
+use Rattle.report.specs.declared.Summary.{Summary}
 use Rattle.report.specs.Exact.{wanted}
 use Rattle.report.specs.Promise.{ReportPromise}
-use Rattle.report.specs.declared.ReportAnswer.{ReportAnswer}
-use Rattle.report.specs.declared.ReportVerdict.TheVariants.{Granted}
 use Rattle.demands.specs.Calls.{Called}
 use Rattle.header.specs.Samples.{sample, sample_says}
 use Rattle.demands.specs.Texts.{sample_clock, sample_run}
@@ -46,20 +45,20 @@ use Rattle.demands.proofs.Demand3.{reports}
 
 -- ---- edits
 
-add_changes : (w : List ℕ) (place client wish : ℕ) (r : Edited) (left : List ℕ) → AddPromise w place client wish r left → r ≡ Done → left ≡ w → ⊥
+add_changes : (w : List ℕ) (place client wish : ℕ) (r : Result (Unit {0}) Refusal) (left : List ℕ) → AddPromise w place client wish r left → r ≡ Ok tt → left ≡ w → ⊥
 unfolding answer
 add_changes w place client wish r left p e k =
-    form_book_and_history.not_idle.changes w (adds place client wish) (sym p.says ∙ ap said_edited e) (sym (add_edits p) ∙ k)
+    form_book_and_history.not_idle.changes w (adds place client wish) (sym p.says ∙ ap said e) (sym (add_edits p) ∙ k)
 
-remove_changes : (w : List ℕ) (place client : ℕ) (r : Edited) (left : List ℕ) → RemovePromise w place client r left → r ≡ Done → left ≡ w → ⊥
+remove_changes : (w : List ℕ) (place client : ℕ) (r : Result (Unit {0}) Refusal) (left : List ℕ) → RemovePromise w place client r left → r ≡ Ok tt → left ≡ w → ⊥
 unfolding answer
 remove_changes w place client r left p e k =
-    form_book_and_history.not_idle.changes w (removes place client) (sym p.says ∙ ap said_edited e) (sym (remove_edits p) ∙ k)
+    form_book_and_history.not_idle.changes w (removes place client) (sym p.says ∙ ap said e) (sym (remove_edits p) ∙ k)
 
-after_load : (w list : List ℕ) (r : Edited) (loaded : List ℕ) (run : List Edit) (z : List ℕ)
-    → LoadPromise w list r loaded → r ≡ Done → Called loaded run z → Afresh form (standing_from (items list) run) z
+after_load : (w list : List ℕ) (r : Result (Unit {0}) Refusal) (loaded : List ℕ) (run : List Edit) (z : List ℕ)
+    → LoadPromise w list r loaded → r ≡ Ok tt → Called loaded run z → Afresh form (standing_from (items list) run) z
 after_load w list r loaded run z p e c =
-    let f = next_first (load_says form w list) (λ b. granted tt) tt (sym p.says ∙ ap said_edited e) in
+    let f = next_first (load_says form w list) (λ b. granted tt) tt (sym p.says ∙ ap said e) in
     let l : loaded ≡ f.value = p.lent ∙ ap (λ (s : Said (List ℕ)). leaves (λ b d. b) s w) f.given in
     let a : Afresh form (items list) f.value = ((form_book_and_history.load_is_building w list).granted_only f.value f.given).1 in
     let k : z ≡ after form f.value run = calls loaded run z c ∙ ap (λ (b : List ℕ). after form b run) l in
@@ -68,13 +67,13 @@ after_load w list r loaded run z p e c =
 -- ---- hits
 
 module _ (client hits : ℕ) (someone : bad_client client ≡ false) (has : tally (wanted client sample_says) (standing sample_run) ≡ hits)
-    (book out : List ℕ) (r : ReportAnswer) (left : List ℕ) (c : Called empty sample_run book) (room : 2 * hits ≤ length out)
+    (book out : List ℕ) (r : Result Summary Refusal) (left : List ℕ) (c : Called empty sample_run book) (room : 2 * hits ≤ length out)
     (p : ReportPromise book client sample sample_clock out r left) where
-  counted : (r.verdict ≡ Granted) × (r.summary.hits ≡ hits)
-  unfolding is_clock has_day year_of answer_of
+  counted : HasHits hits r
+  unfolding is_clock has_day year_of
   counted =
       let k = reports.report_exact sample_run book client sample sample_says sample_clock out r left c p someone sample_reads refl refl (omega arith) in
-      (ap (λ (a : ReportAnswer). a.verdict) k.says, k.count ∙ has)
+      (k.count.0, k.count.1, k.count.2 ∙ has)
 
 abbrev has : ℕ → ℕ
 has client = tally (wanted client sample_says) (standing sample_run)

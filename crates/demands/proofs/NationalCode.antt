@@ -103,7 +103,7 @@ national_code n = record {
         hits = k.lists.hits;
         lists = all_wished client a six_zeros (standing run) k.lists.hits k.lists.exactly k.lists.order;
         says = k.says;
-        count = k.count ∙ e;
+        count = (k.count.0, k.count.1, k.count.2 ∙ e);
         lent = k.lent;
       };
   same_report = λ run book client text fields q words at summary out r left rest c p z k someone clock day six_zeros enough fits.

@@ -3,10 +3,8 @@
 
 mod asked;
 mod said;
-mod shown;
 
 use asked::word;
-use shown::{mark, say};
 use std::io;
 use std::io::Write;
 
@@ -18,7 +16,7 @@ fn event<W: Write>(out: &mut W, a: u8, b: u8, c: u8) -> io::Result<()> {
 }
 
 fn date<W: Write>(out: &mut W, line: &[u8]) -> io::Result<()> {
-    said::date(out, clock::date_of(word(line, 1), word(line, 2)))
+    said::answer(out, clock::date_of(word(line, 1), word(line, 2)))
 }
 
 fn places<W: Write>(out: &mut W, line: &[u8]) -> io::Result<()> {
@@ -29,20 +27,20 @@ fn places<W: Write>(out: &mut W, line: &[u8]) -> io::Result<()> {
 fn times<W: Write>(out: &mut W, line: &[u8]) -> io::Result<()> {
     let at = asked::clock_of(line);
     let issue = asked::issue_of(line);
-    said::timed(
+    said::answer(
         out,
         clock::times_of(at, issue.day, issue.hour, issue.minute, issue.duration),
     )?;
-    said::life(
+    said::answer(
         out,
         clock::lifetime(at, issue.day, issue.hour, issue.minute, issue.duration),
     )
 }
 
 fn call<W: Write>(out: &mut W, line: &[u8], name: u8) -> io::Result<()> {
-    mark(out, b':')?;
+    out.write_all(b":")?;
     match name {
-        b'c' => said::checked(out, clock::check(asked::clock_of(line))),
+        b'c' => said::answer(out, clock::check(asked::clock_of(line))),
         b'd' => date(out, line),
         b't' => times(out, line),
         _ => places(out, line),
@@ -50,13 +48,13 @@ fn call<W: Write>(out: &mut W, line: &[u8], name: u8) -> io::Result<()> {
 }
 
 fn case<W: Write>(out: &mut W, line: &[u8]) -> io::Result<()> {
-    say(out, line)?;
-    if line.len() == 3 {
-        event(out, line[0], line[1], line[2])?;
-    } else if 3 < line.len() {
-        call(out, line, line[0])?;
+    out.write_all(line)?;
+    match line {
+        [a, b, c] => event(out, *a, *b, *c)?,
+        [name, _, _, _, ..] => call(out, line, *name)?,
+        _ => {}
     }
-    mark(out, b'\n')
+    out.write_all(b"\n")
 }
 
 fn cases<W: Write>(out: &mut W, input: &[u8]) -> io::Result<()> {

@@ -1,72 +1,72 @@
 // What the calls say, each with a space before it.
-use super::shown::{mark, number, pair, say};
 use clock::{MonthDay, Phase, Stamp, Times};
 use refusals::Refusal;
 use std::io;
 use std::io::Write;
 
+fn word(b: bool) -> &'static str {
+    if b { "yes" } else { "no" }
+}
+
 pub(crate) fn yes<W: Write>(out: &mut W, b: bool) -> io::Result<()> {
-    if b {
-        say(out, b" yes")
-    } else {
-        say(out, b" no")
-    }
+    write!(out, " {}", word(b))
 }
 
 pub(crate) fn kind<W: Write>(out: &mut W, listed: bool, class: u32) -> io::Result<()> {
-    yes(out, listed)?;
-    mark(out, b' ')?;
-    number(out, class)
+    write!(out, " {} {class}", word(listed))
 }
 
-fn refused<W: Write>(out: &mut W, why: Refusal) -> io::Result<()> {
-    say(out, b" refused=")?;
-    number(out, why.number())
+// What an answer is printed as, where nothing is refused.
+pub(crate) trait Shown {
+    fn show<W: Write>(self, out: &mut W) -> io::Result<()>;
 }
 
-pub(crate) fn checked<W: Write>(out: &mut W, answer: Result<(), Refusal>) -> io::Result<()> {
-    match answer {
-        Ok(()) => say(out, b" good"),
-        Err(why) => refused(out, why),
+impl Shown for () {
+    fn show<W: Write>(self, out: &mut W) -> io::Result<()> {
+        write!(out, " good")
     }
 }
 
-pub(crate) fn date<W: Write>(out: &mut W, answer: Result<MonthDay, Refusal>) -> io::Result<()> {
-    match answer {
-        Ok(date) => pair(out, b' ', date.month, b'-', date.day),
-        Err(why) => refused(out, why),
+impl Shown for MonthDay {
+    fn show<W: Write>(self, out: &mut W) -> io::Result<()> {
+        write!(out, " {:02}-{:02}", self.month, self.day)
     }
 }
 
-fn stamp<W: Write>(out: &mut W, s: Stamp) -> io::Result<()> {
-    pair(out, b' ', s.month, b'-', s.day)?;
-    pair(out, b' ', s.hour, b':', s.minute)
-}
-
-fn phase<W: Write>(out: &mut W, p: Phase) -> io::Result<()> {
-    match p {
-        Phase::Early => say(out, b" early"),
-        Phase::Live => say(out, b" live"),
-        Phase::Expired => say(out, b" expired"),
+impl Shown for Stamp {
+    fn show<W: Write>(self, out: &mut W) -> io::Result<()> {
+        write!(
+            out,
+            " {:02}-{:02} {:02}:{:02}",
+            self.month, self.day, self.hour, self.minute
+        )
     }
 }
 
-fn times<W: Write>(out: &mut W, t: Times) -> io::Result<()> {
-    stamp(out, t.issued)?;
-    stamp(out, t.until)?;
-    phase(out, t.phase)
-}
-
-pub(crate) fn timed<W: Write>(out: &mut W, answer: Result<Times, Refusal>) -> io::Result<()> {
-    match answer {
-        Ok(t) => times(out, t),
-        Err(why) => refused(out, why),
+impl Shown for Phase {
+    fn show<W: Write>(self, out: &mut W) -> io::Result<()> {
+        match self {
+            Phase::Early => write!(out, " early"),
+            Phase::Live => write!(out, " live"),
+            Phase::Expired => write!(out, " expired"),
+        }
     }
 }
 
-pub(crate) fn life<W: Write>(out: &mut W, answer: Result<Phase, Refusal>) -> io::Result<()> {
+impl Shown for Times {
+    fn show<W: Write>(self, out: &mut W) -> io::Result<()> {
+        self.issued.show(out)?;
+        self.until.show(out)?;
+        self.phase.show(out)
+    }
+}
+
+pub(crate) fn answer<W: Write, T: Shown>(
+    out: &mut W,
+    answer: Result<T, Refusal>,
+) -> io::Result<()> {
     match answer {
-        Ok(now) => phase(out, now),
-        Err(why) => refused(out, why),
+        Ok(granted) => granted.show(out),
+        Err(why) => write!(out, " refused={}", why.number()),
     }
 }

@@ -10,13 +10,7 @@ ghost use Rattle.place.specs.Promise.{MatchesPromise, MatchesSomePromise, FirstW
 fn meets(a: u32, b: u32) -> bool
     ensures { result ≡ meet a b }
 {
-    if a == b {
-        return true;
-    }
-    if a == 0 {
-        return true;
-    }
-    b == 0
+    a == b || a == 0 || b == 0
 }
 
 // Whether two places match by state, county and part. The front PSS of PSSCCC is divided off once, for all three tests.
@@ -25,13 +19,9 @@ fn by_parts(watched: u32, sent: u32) -> bool
 {
     let watched_front = watched / 1000;
     let sent_front = sent / 1000;
-    if watched_front % 100 != sent_front % 100 {
-        return false;
-    }
-    if !meets(watched - watched_front * 1000, sent - sent_front * 1000) {
-        return false;
-    }
-    meets(watched_front / 100, sent_front / 100)
+    watched_front % 100 == sent_front % 100
+        && meets(watched - watched_front * 1000, sent - sent_front * 1000)
+        && meets(watched_front / 100, sent_front / 100)
 }
 
 // Whether a watched place and a place of a header match. Six zeros match every place, as they mean the whole country; without a state
@@ -52,17 +42,11 @@ pub fn matches(watched: u32, sent: u32) -> bool
 pub fn matches_some(watched: u32, sent: &[u32]) -> bool
     ensures { MatchesSomePromise watched sent.now result }
 {
-    let mut i: usize = 0;
-    while i < sent.len() {
-        if matches(watched, sent[i]) {
-            return true;
-        }
-        i += 1;
-    }
-    false
+    sent.iter().any(|place| matches(watched, *place))
 }
 
 // The first word of a place's records: SS × 10,000 + CCC × 10 + P.
+#[tactic(auto, unfolding(crate::specs::FirstWord::first_word))]
 pub fn first_word(place: u32) -> u32
     ensures { FirstWordPromise place result }
 {
@@ -70,6 +54,7 @@ pub fn first_word(place: u32) -> u32
 }
 
 // The place code of a first word.
+#[tactic(auto, unfolding(crate::specs::FirstWord::place_of))]
 pub fn place_of(word: u32) -> u32
     ensures { PlaceOfPromise word result }
 {
@@ -77,18 +62,17 @@ pub fn place_of(word: u32) -> u32
 }
 
 // Whether a book would not take the place: it is over 999,999, or SS is 00.
+#[tactic(auto, unfolding(crate::specs::FirstWord::bad_place))]
 pub fn bad_place(place: u32) -> bool
     ensures { BadPlacePromise place result }
 {
-    if 999999 < place {
-        return true;
-    }
-    place / 1000 % 100 == 0
+    999999 < place || place / 1000 % 100 == 0
 }
 
 // ---- packed places, for those who match many: no division in the loop
 
 // A first word with its parts in bits of their own.
+#[tactic(auto, unfolding(crate::specs::Packed::packed))]
 pub fn pack(word: u32) -> u32
     ensures { PackPromise word result }
 {
@@ -99,10 +83,8 @@ pub fn pack(word: u32) -> u32
 pub fn pack_places(places: &mut [u32])
     ensures { PackPlacesPromise places.old places.new }
 {
-    let mut k: usize = 0;
-    while k < places.len() {
-        places[k] = pack(first_word(places[k]));
-        k += 1;
+    for place in places.iter_mut() {
+        *place = pack(first_word(*place));
     }
 }
 
@@ -110,13 +92,9 @@ pub fn pack_places(places: &mut [u32])
 fn packed_by_parts(watched: u32, sent: u32) -> bool
     ensures { result ≡ packed_by_parts watched sent }
 {
-    if watched / 16384 != sent / 16384 {
-        return false;
-    }
-    if !meets(watched / 16 % 1024, sent / 16 % 1024) {
-        return false;
-    }
-    meets(watched % 16, sent % 16)
+    watched / 16384 == sent / 16384
+        && meets(watched / 16 % 1024, sent / 16 % 1024)
+        && meets(watched % 16, sent % 16)
 }
 
 // Whether two packed places match, by the rule of `matches`. The state is looked at first: nearly every place sent has one, and takes no
@@ -134,12 +112,5 @@ fn packed_match(watched: u32, sent: u32) -> bool
 pub fn packed_match_some(watched: u32, sent: &[u32]) -> bool
     ensures { PackedMatchSomePromise watched sent.now result }
 {
-    let mut at: usize = 0;
-    while at < sent.len() {
-        if packed_match(watched, sent[at]) {
-            return true;
-        }
-        at += 1;
-    }
-    false
+    sent.iter().any(|place| packed_match(watched, *place))
 }

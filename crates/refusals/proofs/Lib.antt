@@ -1,3 +1,4 @@
 pub mod Apart
 pub mod Said
 pub mod NoChoice
+pub mod Named

@@ -1,5 +1,5 @@
 -- What the private functions of a report do.
-use Rattle.std.specs.Prelude.{ℕ, ◌+◌, ◌*◌, ◌≤◌, Bool, true, ◌&&◌, List, [], ◌∷◌, map, ◌≡◌, length, ltb, eqb, Result}
+use Rattle.std.specs.Prelude.{ℕ, ◌+◌, ◌*◌, ◌≤◌, Bool, true, ◌&&◌, List, [], ◌∷◌, map, ◌≡◌, length, get_or, ltb, eqb, Result}
 use Rattle.laws.specs.Order.{Said, granted, refused, ◌when◌, choose, in_order}
 use Rattle.laws.specs.Lists.{every, table, keep}
 use Rattle.laws.specs.Space.{pasted, leaves}
@@ -14,7 +14,7 @@ use Rattle.event.specs.Class.{class_of}
 use Rattle.event.specs.declared.ListedClass.{ListedClass}
 use Rattle.book_rules.specs.Form.{form}
 use Rattle.place.specs.Packed.{packed, packed_match_some}
-use Rattle.book_rules.specs.Rules.{Rec, rec_at, recs}
+use Rattle.book_rules.specs.Rules.{Rec, recs}
 use Rattle.book_rules.specs.Subscription.{Sub}
 use Rattle.book_rules.specs.Afresh.{sub_of}
 use Rattle.report.specs.Hits.{has_class, pairs}
@@ -46,9 +46,12 @@ hit_subs test w = map (sub_of form) (keep test (recs w))
 abbrev pub pair : Rec → List ℕ
 pair r = pairs (sub_of form r ∷ [])
 
--- n records of a book, from record `from` on
-unfoldable pub span : List ℕ → ℕ → ℕ → List Rec
-span w from n = table n (λ i. rec_at w (from + i))
+-- records as pairs of words
+abbrev pub rec_of : List ℕ → Rec
+rec_of r = rec (get_or r 0 0) (get_or r 1 0)
+
+unfoldable pub recs_in : List (List ℕ) → List Rec
+recs_in rs = table (length rs) (λ i. rec_of (get_or rs i []))
 
 -- the words of those among some records that pass a test
 unfoldable pub hit_words : (Rec → Bool) → List Rec → List ℕ

@@ -1,15 +1,15 @@
 // One client's report over a book, a header text and a clock.
 #![tactic(auto)]
 
-ghost use Rattle.std.specs.Prelude.{◌≡◌, true, not, ltb, eqb, ◌+◌, ◌-◌, ◌*◌, ◌<◌, ◌≤◌, length, [], ◌∷◌};
+ghost use Rattle.std.specs.Prelude.{◌≡◌, true, not, ltb, eqb, ◌+◌, ◌-◌, ◌*◌, ◌<◌, ◌≤◌, length, [], ◌∷◌, count_by};
 ghost use Rattle.laws.specs.Lists.{tally, one};
 ghost use Rattle.header.specs.Answers.{alert_in};
 ghost use Rattle.book_rules.specs.Form.{form};
-ghost use Rattle.book_rules.specs.Rules.{good};
+ghost use Rattle.book_rules.specs.Rules.{good, recs};
 ghost use Rattle.book_rules.specs.Afresh.{subs};
 ghost use Rattle.report.specs.Hits.{has_class, hits_of};
 ghost use Rattle.report.specs.Promise.{ReportPromise};
-ghost use Rattle.report.specs.Steps.{rec, record_matches, found, hit_subs, span, hit_words, WroteHits, ListsHits, listed_class_of, TimedReport, PlacesRead, Readable, AlertReport};
+ghost use Rattle.report.specs.Steps.{rec, record_matches, found, hit_subs, rec_of, recs_in, hit_words, WroteHits, ListsHits, listed_class_of, TimedReport, PlacesRead, Readable, AlertReport};
 
 use refusals::Refusal;
 
@@ -62,24 +62,18 @@ fn record_matches(first: u32, second: u32, class: u32, sent: &[u32]) -> bool
     place::packed_match_some(place::pack(first), sent)
 }
 
-// How many of the records from..to are hits. The client is tested first, and once: another's record costs one look and one comparison,
-// and no call.
-fn count_hits(book: &[u32], from: usize, to: usize, wanted: Wanted, sent: &[u32]) -> usize
-    requires { (length book.now ≡ 8293) × (from ≤ to) × (to ≤ 4096) }
-    ensures { result ≡ tally (found wanted sent.now) (span book.now from (to - from)) }
+// How many of some records are hits. The client is tested first, and once: another's record costs one look and one comparison, and no
+// call.
+#[tactic(auto, unfolding(crate::specs::Steps::found))]
+fn count_hits(records: &[[u32; 2]], wanted: Wanted, sent: &[u32]) -> usize
+    ensures { result ≡ count_by (λ r. found wanted sent.now (rec_of r)) records.now }
 {
-    let mut hits: usize = 0;
-    let mut i = from;
-    while i < to {
-        let second = book[102 + 2 * i];
-        if is_own(second, wanted.client) {
-            if record_matches(book[101 + 2 * i], second, wanted.class, sent) {
-                hits += 1;
-            }
-        }
-        i += 1;
-    }
-    hits
+    records
+        .iter()
+        .filter(|[first, second]| {
+            is_own(*second, wanted.client) && record_matches(*first, *second, wanted.class, sent)
+        })
+        .count()
 }
 
 // Writes the place and the wish of a record of the client at index at if it matches, and answers the index after what was written.
@@ -95,42 +89,37 @@ fn put_hit(first: u32, second: u32, class: u32, sent: &[u32], out: &mut [u32], a
     at + 2
 }
 
-// Writes the hits of the records from..to from index at on, and answers the index after them. Another's record costs as little as in
-// the count.
-fn write_hits(
-    book: &[u32],
-    from: usize,
-    to: usize,
-    wanted: Wanted,
-    sent: &[u32],
-    out: &mut [u32],
-    at: usize,
-) -> usize
-    requires { (length book.now ≡ 8293) × (from ≤ to) × (to ≤ 4096) × (at + 2 * tally (found wanted sent.now) (span book.now from (to - from)) ≤ length out.old) }
-    ensures { WroteHits out.old at (hit_words (found wanted sent.now) (span book.now from (to - from))) out.new result }
+// Writes the hits of some records, and answers the index after them. Another's record costs as little as in the count.
+fn write_hits(records: &[[u32; 2]], wanted: Wanted, sent: &[u32], out: &mut [u32]) -> usize
+    requires { 2 * tally (found wanted sent.now) (recs_in records.now) ≤ length out.old }
+    ensures { WroteHits out.old 0 (hit_words (found wanted sent.now) (recs_in records.now)) out.new result }
 {
-    let mut e = at;
-    let mut i = from;
-    while i < to {
-        let second = book[102 + 2 * i];
-        if is_own(second, wanted.client) {
-            e = put_hit(book[101 + 2 * i], second, wanted.class, sent, out, e);
+    let mut e = 0;
+    for [first, second] in records {
+        if is_own(*second, wanted.client) {
+            e = put_hit(*first, *second, wanted.class, sent, out, e);
         }
-        i += 1;
     }
     e
 }
 
-// Whether the hits of a book find room in so many words. Where every record of the book does, the hits need no count.
-fn has_room(book: &[u32], wanted: Wanted, sent: &[u32], room: usize) -> bool
+// The records of a book: words 101 and on, two each, as many as word 100 says.
+fn records_of(book: &[u32]) -> &[[u32; 2]]
     requires { good form book.now ≡ true }
-    ensures { result ≡ not (ltb room (2 * length (hit_subs (found wanted sent.now) book.now))) }
+    ensures few { length result.now ≤ 4096 }
+    ensures these { recs_in result.now ≡ recs book.now }
 {
-    let records = book[100] as usize;
-    if 2 * records <= room {
-        return true;
-    }
-    2 * count_hits(book, 0, records, wanted, sent) <= room
+    let n = book[100] as usize;
+    let (records, _) = book[101..101 + 2 * n].as_chunks::<2>();
+    records
+}
+
+// Whether the hits of some records find room in so many words. Where all of the records do, the hits need no count.
+fn has_room(records: &[[u32; 2]], wanted: Wanted, sent: &[u32], room: usize) -> bool
+    requires { length records.now ≤ 4096 }
+    ensures { result ≡ not (ltb room (2 * tally (found wanted sent.now) (recs_in records.now))) }
+{
+    2 * records.len() <= room || 2 * count_hits(records, wanted, sent) <= room
 }
 
 // Writes the hits where there is room for them. Too little room must write nothing, so it is asked for first: one pass over the
@@ -139,19 +128,17 @@ fn list_hits(book: &[u32], wanted: Wanted, sent: &[u32], out: &mut [u32]) -> Res
     requires { good form book.now ≡ true }
     ensures { ListsHits (hit_subs (found wanted sent.now) book.now) out.old result out.new }
 {
-    if !has_room(book, wanted, sent, out.len()) {
+    let records = records_of(book);
+    if !has_room(records, wanted, sent, out.len()) {
         return Err(Refusal::NoRoom);
     }
-    let total = book[100] as usize;
-    let end = write_hits(book, 0, total, wanted, sent, out, 0);
-    Ok(end / 2)
+    Ok(write_hits(records, wanted, sent, out) / 2)
 }
 
 // ---- the report
 
 // Whether an event is listed, and its class: one search.
-fn listed_class_of(event: &[u8]) -> event::ListedClass
-    requires { length event.now ≡ 3 }
+fn listed_class_of(event: &[u8; 3]) -> event::ListedClass
     ensures { result ≡ listed_class_of event.now }
 {
     event::listed_class(event[0], event[1], event[2])

@@ -6,8 +6,9 @@ ghost use Rattle.std.specs.Prelude.{◌≡◌};
 ghost use Rattle.c_words.specs.Promise.{ReadWordsPromise, WriteWordsPromise, ReportWordsPromise};
 ghost use Rattle.same.specs.Promise.{SameStripPromise, SameVotePromise, SameListedPromise, SameClassPromise, SameMatchesPromise, SameGoodPromise, SameAddPromise, SameRemovePromise, SameLoadPromise, SamePagePromise};
 
-use c_answers::{answer, edited, printed, voted, yes};
+use c_answers::{told, yes};
 use clock::Clock;
+use refusals::Refusal;
 
 // ---- bursts
 
@@ -27,7 +28,7 @@ pub struct SameVoted {
 pub extern "C" fn same_strip(burst: &[u8]) -> u64
     ensures { SameStripPromise burst.now result }
 {
-    answer(0, burst::leading(burst))
+    told::<usize, Refusal>(Ok(burst::leading(burst)))
 }
 
 // The vote on three received bursts: the length of the text, which stands at the front; or 1, 2, 4, 13 or 3, and nothing is written.
@@ -37,12 +38,11 @@ pub extern "C" fn same_vote(a: &[u8], b: &[u8], c: &[u8], out: &mut [u8]) -> Sam
     ensures { SameVotePromise a.now b.now c.now out.old result out.new }
 {
     let said = burst::vote(a, b, c, out);
-    let settled = said.voted;
     let first = said.first as u32;
     let second = said.second as u32;
     let third = said.third as u32;
     SameVoted {
-        answer: voted(settled),
+        answer: told(said.voted),
         first,
         second,
         third,
@@ -100,7 +100,12 @@ pub extern "C" fn same_matches(watched: u32, sent: u32) -> u32
 pub extern "C" fn same_good(book: &[u32]) -> u64
     ensures { SameGoodPromise book.now result }
 {
-    if book_check::is_good(book) { 0 } else { 16 }
+    let good = if book_check::is_good(book) {
+        Ok(())
+    } else {
+        Err(Refusal::BadBook)
+    };
+    told(good)
 }
 
 // Adds one subscription, or says 16, 17, 18, 19, 20 or 22 and writes nothing.
@@ -108,7 +113,7 @@ pub extern "C" fn same_good(book: &[u32]) -> u64
 pub extern "C" fn same_add(book: &mut [u32], place: u32, client: u32, wish: u32) -> u64
     ensures { SameAddPromise book.old place client wish result book.new }
 {
-    edited(book_edits::add(book, place, client, wish))
+    told(book_edits::add(book, place, client, wish))
 }
 
 // Removes one subscription, or says 16, 17, 18 or 21 and writes nothing.
@@ -116,7 +121,7 @@ pub extern "C" fn same_add(book: &mut [u32], place: u32, client: u32, wish: u32)
 pub extern "C" fn same_remove(book: &mut [u32], place: u32, client: u32) -> u64
     ensures { SameRemovePromise book.old place client result book.new }
 {
-    edited(book_edits::remove(book, place, client))
+    told(book_edits::remove(book, place, client))
 }
 
 // Builds the book afresh from items of three words, or says 16 or the first refusal and writes nothing.
@@ -124,7 +129,7 @@ pub extern "C" fn same_remove(book: &mut [u32], place: u32, client: u32) -> u64
 pub extern "C" fn same_load(book: &mut [u32], items: &[u32]) -> u64
     ensures { SameLoadPromise book.old items.now result book.new }
 {
-    edited(book_loads::load(book, items))
+    told(book_loads::load(book, items))
 }
 
 // ---- the report
@@ -160,5 +165,5 @@ pub extern "C" fn same_report(
 pub extern "C" fn same_page(input: &[u8], out: &mut [u8]) -> u64
     ensures { SamePagePromise input.now out.old result out.new }
 {
-    printed(page::page(input, out))
+    told(page::page(input, out))
 }

@@ -1,7 +1,7 @@
 -- At the loop's head the first k bytes are in their places, and the rest are zeros.
 use mathlib.Core.Path.{◌≡◌}
 use mathlib.Core.List.{◌++◌}
-use lib.ListN.{take, drop, replicate, length}
+use lib.ListN.{take, drop, replicate}
 use Rattle.c_words.specs.Words.{bytes_at}
 use Rattle.c_words.proofs.bytes_at.Given as goal
 

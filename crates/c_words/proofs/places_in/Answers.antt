@@ -1,8 +1,4 @@
 -- The 31 words behind the nineteenth are all that follow.
-use mathlib.Core.Path.{◌∙◌, sym}
-use lib.Seq.{take_all}
-use lib.ListN.{drop, length-drop}
-use native.Mathlib.Omega.{arith}
 use Rattle.c_words.specs.Words.{places_in}
 use Rattle.c_words.proofs.places_in.Goals as goal
 

@@ -1,5 +1,4 @@
 -- The report is told in halves, with its summary or without.
-use mathlib.Core.Path.{sym, ap, ◌∙◌}
 use native.Mathlib.Omega.{arith}
 use Rattle.c_answers.proofs.Instances.{told_size}
 use Rattle.c_words.proofs.Reported.{few_promise, all_promise}

@@ -2,7 +2,6 @@
 use mathlib.Core.Path.{ap, ◌∙◌}
 use native.Mathlib.Omega.{arith}
 use Rattle.clock.specs.Clock.{has_day}
-use Rattle.clock.specs.Lifetime.{stamp_of}
 use Rattle.clock.specs.declared.Clock.{Clock}
 use Rattle.clock.proofs.Ranges.{days_low}
 use Rattle.clock.proofs.Moments.{time_exists}
@@ -13,6 +12,3 @@ stamp_of-requires c =
     let a = c.args in
     ap (λ (t : Clock). has_day t.year t.day) c.time_in.ensures
     ∙ time_exists a.year a.minutes (omega (arith, days_low a.year))
-
-pub returns : goal.returns
-returns c = c.stamp_of.ensures ∙ ap stamp_of c.time_in.ensures

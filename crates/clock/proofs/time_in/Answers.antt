@@ -4,7 +4,6 @@ use Prim.Native.Nat.{ℕ, ◌+◌, ◌-◌, ◌/◌, ◌%◌, ◌<◌}
 use native.Mathlib.Omega.{arith}
 use Rattle.clock.specs.Clock.{days_in}
 use Rattle.clock.specs.Lifetime.{time_in}
-use Rattle.clock.proofs.Ranges.{days_low}
 use Rattle.clock.proofs.Moments.{this_year, next_year}
 use Rattle.clock.proofs.time_in.Goals as goal
 
@@ -12,9 +11,6 @@ use Rattle.clock.proofs.time_in.Goals as goal
 over : (year minutes days : ℕ) → days ≡ days_in year → days < minutes / 1440 + 1
     → record { year = year + 1; day = minutes / 1440 + 1 - days; hour = minutes / 60 % 24; minute = minutes % 60 } ≡ time_in year minutes
 over year minutes days e h = rw e (next_year year minutes (omega arith))
-
-pub overflow_sub-result : goal.overflow_sub-result
-overflow_sub-result c = omega (arith, days_low c.args.year, c.days_in-days.ensures)
 
 pub returns-then-days-day : goal.returns-then-days-day
 returns-then-days-day c =

@@ -1,17 +1,10 @@
--- The loop's invariant: the places up to k are packed, and the others are as found.
-use Prim.Native.Nat.{ℕ, ◌-◌, ◌≤◌}
+-- The places so far are packed, and the others are as found.
 use mathlib.Core.Path.{◌≡◌}
-use mathlib.Core.List.{List, ◌++◌, map}
-use lib.ListN.{length, take, drop}
+use mathlib.Core.List.{◌++◌, map}
+use lib.ListN.{take, drop}
 use Rattle.place.specs.Packed.{packed_place}
 use Rattle.place.proofs.pack_places.Given as goal
 
--- the places up to k packed, and the others as found
-abbrev pub up_to : List ℕ → ℕ → List ℕ
-up_to w k = take k (map packed_place w) ++ drop k w
-
-abbrev pub invariant-loop-k : goal.invariant-loop-k
-invariant-loop-k l = (l.k ≤ length l.initial.places) × (length l.places ≡ length l.initial.places) × (l.places ≡ up_to l.initial.places l.k)
-
-abbrev pub decreases-loop-k : goal.decreases-loop-k
-decreases-loop-k l = length l.initial.places - l.k
+abbrev pub invariant-loop-place : goal.invariant-loop-place
+invariant-loop-place l =
+    l.places ≡ map packed_place (take l.place-index l.initial.places) ++ drop l.place-index l.initial.places

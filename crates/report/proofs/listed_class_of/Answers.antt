@@ -18,6 +18,6 @@ three (x ∷ y ∷ z ∷ w ∷ l) h = absurd (omega arith)
 pub returns : goal.returns
 returns c =
     let e = c.args.event.now in
-    let t : code (get_or e 0 0) (get_or e 1 0) (get_or e 2 0) ≡ e = three e c.requires in
+    let t : code (get_or e 0 0) (get_or e 1 0) (get_or e 2 0) ≡ e = three e (omega arith) in
     let p = c.listed_class.ensures in
     λ i. record { listed = (p.listed ∙ ap is_listed t) i; class = (p.class ∙ ap class_of t) i }

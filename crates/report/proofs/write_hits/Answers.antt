@@ -1,56 +1,57 @@
--- The loop's invariant: the words of the hits among the records from..i stand from index at on, and e is the index after them.
-use mathlib.Core.Path.{◌≡◌, sym, ap, ◌∙◌}
+-- The words of the hits among the first records stand at the front, and e is the index after them.
+use mathlib.Core.Path.{◌≡◌, refl, sym, ap, ◌∙◌}
+use mathlib.Core.List.{[]}
+use Prim.Native.Nat.{ℕ, ◌+◌, ◌*◌, ◌≤◌}
 use native.Mathlib.Omega.{arith}
-use Rattle.laws.specs.Lists.{one}
-use Rattle.book_rules.specs.Rules.{rec_at}
-use Rattle.report.specs.Steps.{record_matches, found}
+use lib.ListN.{length, get_or}
+use Rattle.laws.specs.Lists.{one, table, tally}
+use Rattle.book_rules.specs.Rules.{Rec}
+use Rattle.report.specs.Steps.{rec_of, record_matches, found, recs_in}
 use Rattle.report.proofs.Spans.{begun, fits, turn, turn_no}
 use Rattle.report.proofs.Found.{own, not_own}
 use Rattle.report.proofs.write_hits.Goals.{then-is_own, else-is_own}
 use Rattle.report.proofs.write_hits.Goals as goal
 
-pub loop-i-init : goal.loop-i-init
-loop-i-init c =
+pub loop-first-init : goal.loop-first-init
+loop-first-init c =
     let a = c.args in
-    (omega arith, omega arith, omega arith, begun (found a.wanted a.sent.now) a.book.now a.from a.at a.out.now)
+    (refl, begun (found a.wanted a.sent.now) (λ i. rec_of (get_or a.records.now i [])) 0 a.out.now)
 
 pub put_hit-e-requires : goal.put_hit-e-requires
+unfolding recs_in
 put_hit-e-requires c =
-    let p = c.loop-i in
+    let p = c.loop-first in
     let a = c.args in
-    let w = a.book.now in
-    let o = own a.wanted a.sent.now (rec_at w p.i) (sym c.is_own.ensures ∙ c.if-is_own.true) in
-    let k = found a.wanted a.sent.now in
-    let f = fits k w a.from p.i a.to a.at a.out.now p.invariant.0 c.loop-i-test.true c.requires.3 in
-    let n = p.invariant.3.next in
-    omega (arith, p.invariant.2, ap one o)
+    let g : ℕ → Rec = λ i. rec_of (get_or a.records.now i []) in
+    let o = own a.wanted a.sent.now (g p.first-index) (sym c.is_own.ensures ∙ c.if-is_own.true) in
+    let room : 0 + 2 * tally (found a.wanted a.sent.now) (table (length a.records.now) g) ≤ length a.out.now = omega (arith, c.requires) in
+    let f = fits (found a.wanted a.sent.now) g p.first-index (length a.records.now) 0 a.out.now (omega arith) room in
+    let n = p.invariant.1.next in
+    omega (arith, p.invariant.0, ap one o)
 
-pub loop-i-preserved : goal.loop-i-preserved
-loop-i-preserved c =
-    let p = c.loop-i in
+pub loop-first-preserved : goal.loop-first-preserved
+unfolding recs_in
+loop-first-preserved c =
+    let p = c.loop-first in
     let a = c.args in
-    let w = a.book.now in
-    let r = rec_at w p.i in
+    let g : ℕ → Rec = λ i. rec_of (get_or a.records.now i []) in
     let k = found a.wanted a.sent.now in
     let j = record_matches a.wanted.class a.sent.now in
     let v = sym c.is_own.ensures in
-    let below = c.loop-i-test.true in
+    let room : 0 + 2 * tally k (table (length a.records.now) g) ≤ length a.out.now = omega (arith, c.requires) in
     elim c.if-is_own.branch [
       | then-is_own b ↦
-          let o = own a.wanted a.sent.now r (v ∙ b.if-is_own.true) in
-          let t = turn k w a.from p.i a.to a.at a.out.now p.invariant.0 below c.requires.3 j (sym o) p.out _ p.e _ p.invariant.3 in
-          (omega arith, omega arith, c.if-is_own.auto.out ∙ p.invariant.2, rw (b.out-is, b.e-is) (t b.put_hit-e.ensures))
+          let o = own a.wanted a.sent.now (g p.first-index) (v ∙ b.if-is_own.true) in
+          let t = turn k g p.first-index (length a.records.now) 0 a.out.now (omega arith) room j (sym o) p.out _ p.e _ p.invariant.1 in
+          (c.if-is_own.auto.out ∙ p.invariant.0, rw (b.out-is, b.e-is) (t b.put_hit-e.ensures))
       | else-is_own b ↦
-          let o = not_own a.wanted a.sent.now r (v ∙ b.if-is_own.false) in
-          let t = turn_no k w a.from p.i a.to a.at a.out.now p.invariant.0 below c.requires.3 p.out p.e o p.invariant.3 in
-          (omega arith, omega arith, c.if-is_own.auto.out ∙ p.invariant.2, rw (b.out-is, b.e-is) t)
+          let o = not_own a.wanted a.sent.now (g p.first-index) (v ∙ b.if-is_own.false) in
+          let t = turn_no k g p.first-index (length a.records.now) 0 a.out.now (omega arith) room p.out p.e o p.invariant.1 in
+          (c.if-is_own.auto.out ∙ p.invariant.0, rw (b.out-is, b.e-is) t)
     ]
 
-pub shape_of-out : goal.shape_of-out
-shape_of-out c = c.loop-i.invariant.2
-
 pub returns : goal.returns
+unfolding recs_in
 returns c =
-    let a = c.args in
-    let e : c.loop-i.i ≡ a.to = omega arith in
-    rw (← e) c.loop-i.invariant.3
+    let e : c.loop-first.first-index ≡ length c.args.records.now = omega arith in
+    rw (← e) c.loop-first.invariant.1

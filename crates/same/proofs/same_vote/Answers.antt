@@ -8,6 +8,7 @@ use mir.Val.{Fits}
 use Rattle.burst.specs.Strip.{lead}
 use Rattle.burst.proofs.Stripped.{lead_most}
 use Rattle.c_answers.specs.Answer.{in_halves}
+use Rattle.c_answers.proofs.Instances.{told_size}
 use Rattle.same.proofs.same_vote.Goals as goal
 
 word : (l : List ℕ) (n : ℕ) → n ≡ lead l → Fits w32 n
@@ -26,7 +27,7 @@ pub returns : goal.returns
 returns c =
     let vote = c.vote-said.ensures in
     record {
-      says = c.voted.ensures.says ∙ ap in_halves vote.says;
+      says = told_size c.told.ensures ∙ ap in_halves vote.says;
       first = vote.first;
       second = vote.second;
       third = vote.third;

@@ -5,4 +5,4 @@ use Rattle.clock.proofs.calendar.date_in.Goals as goal
 
 pub returns : goal.returns
 unfolding date_of
-returns c = ap split (c.wide-x.ensures ∙ c.entry.ensures ∙ ap calendar c.entry_of.ensures.is)
+returns c = ap split (c.from-x.ensures ∙ c.entry.ensures ∙ ap calendar c.entry_of.ensures.is)
