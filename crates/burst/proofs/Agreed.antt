@@ -4,7 +4,7 @@ use mathlib.Core.Bool.{Bool, true, false, cond, not}
 use mathlib.Core.List.{List}
 use Prim.Native.Nat.{ℕ, zero, suc, ◌+◌, ◌-◌, ◌≤◌, ◌<◌}
 use native.Mathlib.Omega.{arith}
-use borrow.Author.Tests.{eq-eqb, ne_eqb, lt-ltb, le-ltb, ltb-true, ltb-false}
+use borrow.Author.Tests.{ne_eqb, lt-ltb, le-ltb, ltb-true, ltb-false}
 use lib.Dec.{eqb, ltb}
 use lib.ListN.{length, take, drop, get_or}
 use Rattle.laws.specs.Order.{Said, granted, refused_at, choose, in_order}
@@ -19,7 +19,7 @@ use Rattle.laws.specs.Lists.{lowest}
 use Rattle.laws.proofs.Clash.{clash}
 use Rattle.refusals.specs.Refusals.{said}
 use Rattle.refusals.specs.declared.Refusal.{Refusal}
-use Rattle.refusals.specs.declared.Refusal.TheVariants.{LongBurst, NoText, ClashAt, LongText, NoRoom}
+use Rattle.refusals.specs.declared.Refusal.TheVariants.{LongBurst, ClashAt}
 use Rattle.burst.specs.Strip.{lead, stripped}
 use Rattle.burst.specs.Vote.{voted_length, clash_at, voted_text, too_long, vote_rows, vote_says, vote_leaves}
 use Rattle.burst.specs.Promise.{VotePromise}
@@ -110,17 +110,7 @@ module _ (a b c s p q : List ℕ) (n : ℕ) (out : List ℕ) (r : Result ℕ Ref
             (ap (pasted out 0) (sym (text_is a b c s p q n w)));
       }
 
--- ---- the earlier numbers
-
-module _ (a b c out : List ℕ) (n : ℕ) (e : n ≡ voted_length a b c) where
-  pub decide_2 : n ≡ 0 → Decides a b c out (Err NoText) out
-  decide_2 p = record { says = rw (← e, eq-eqb n 0 p); space = refl }
-
-  pub decide_4 : (n ≡ 0 → ⊥) → 252 < n → Decides a b c out (Err LongText) out
-  decide_4 p h = record { says = rw (← e, ne_eqb n 0 p, lt-ltb 252 n h); space = refl }
-
-  pub decide_13 : (n ≡ 0 → ⊥) → n ≤ 252 → length out < n → Decides a b c out (Err NoRoom) out
-  decide_13 p h g = record { says = rw (← e, ne_eqb n 0 p, le-ltb 252 n h, lt-ltb (length out) n g); space = refl }
+-- ---- the whole vote
 
 module _ (a b c out : List ℕ) (i j k : ℕ) (p : i ≡ lead a) (q : j ≡ lead b) (r : k ≡ lead c) where
   pub vote_1 : too_long a b c ≡ true → VotePromise a b c out (record { voted = Err LongBurst; first = i; second = j; third = k }) out

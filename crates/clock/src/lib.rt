@@ -95,6 +95,7 @@ fn minute_of(t: Clock) -> u32
 }
 
 // Whether a header is early, live or expired, all counted from one start. Differences, so that no sum runs over.
+#[tactic(auto, unfolding(crate::specs::Lifetime::phase_of))]
 fn phase_of(issue: u32, duration: u32, at: u32) -> Phase
     ensures { result ≡ phase_of issue duration at }
 {

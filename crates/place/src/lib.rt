@@ -26,6 +26,7 @@ fn by_parts(watched: u32, sent: u32) -> bool
 
 // Whether a watched place and a place of a header match. Six zeros match every place, as they mean the whole country; without a state
 // any other place matches none.
+#[tactic(auto, unfolding(crate::specs::Place::matches))]
 pub fn matches(watched: u32, sent: u32) -> bool
     ensures { MatchesPromise watched sent result }
 {
@@ -99,6 +100,7 @@ fn packed_by_parts(watched: u32, sent: u32) -> bool
 
 // Whether two packed places match, by the rule of `matches`. The state is looked at first: nearly every place sent has one, and takes no
 // further test.
+#[tactic(auto, unfolding(crate::specs::Packed::packed_match))]
 fn packed_match(watched: u32, sent: u32) -> bool
     ensures { result ≡ packed_match watched sent }
 {
