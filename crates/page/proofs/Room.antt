@@ -32,9 +32,10 @@ use Rattle.input_lines.specs.Lines.{pieces, LineForm, is_line}
 use Rattle.input_lines.specs.Forms.{now_line, client_line, header_line, sub_line}
 use Rattle.input_lines.specs.LineByLine.{one_line, each_line}
 use Rattle.page_printing.specs.Page.{page_room}
-use Rattle.std.specs.Prelude.{Result}
+use Rattle.std.specs.Prelude.{Result, Ok, Err}
 use Rattle.refusals.specs.Refusals.{said}
 use Rattle.refusals.specs.declared.Refusal.{Refusal}
+use Rattle.refusals.proofs.Said.{never_granted}
 use Rattle.page_printing.proofs.Pages.{page_fits, refusal_fits}
 use Rattle.page_printing.proofs.Writing.{print_fits}
 use Rattle.page.specs.Input.{clock_of, adds_line, hit_room, Shown, report_shows, lines_say, input_says}
@@ -185,3 +186,11 @@ page_in_room t = go (input_says t) (input_fits t)
 pub page_printed : {input out left : List ℕ} {r : Result ℕ Refusal} → PagePromise input out r left → page_room ≤ length out
     → (said r ≡ granted (length (page_of input))) × (left ≡ pasted out 0 (page_of input))
 page_printed {input} {out} p h = print_fits (as_print p) (omega (arith, page_in_room input))
+
+-- so it is never refused
+pub page_ok : {input out left : List ℕ} {r : Result ℕ Refusal} → PagePromise input out r left → page_room ≤ length out → r ≡ Ok (length (page_of input))
+page_ok {input} {r = r} p h = go r (page_printed p h).0
+  where
+    go : (r : Result ℕ Refusal) → said r ≡ granted (length (page_of input)) → r ≡ Ok (length (page_of input))
+    go (Ok n) e = let z : n ≡ length (page_of input) = cc in ap Ok z
+    go (Err x) e = never_granted x e

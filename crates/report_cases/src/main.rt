@@ -3,7 +3,6 @@
 
 ghost use Rattle.std.specs.Prelude.{IfOk, ◌≤◌, length};
 
-use page_printing::Printed;
 use std::io::{Read, Write};
 use std::rt::Files;
 use std::{fs, io};
@@ -13,14 +12,10 @@ fn print_page<R: Read, W: Write>(file: &mut R, out: &mut W) -> io::Result<()> {
     let mut input = [0u8; 98304];
     let n = reading::read_input(file, &mut input)?;
     let mut space = [0u8; 65536];
-    let answer = page::page(&input[..n], &mut space);
-    let Printed::Bytes(k) = answer else {
-        return Ok(());
-    };
-    if k <= 65536 {
-        out.write_all(&space[..k])?;
+    match page::page(&input[..n], &mut space) {
+        Ok(k) if k <= 65536 => out.write_all(&space[..k]),
+        _ => Ok(()),
     }
-    Ok(())
 }
 
 // The page of the file with this name. An input that is missing must not pass for an empty one.
