@@ -27,7 +27,9 @@ fn places_at(text: &[u8], at: usize, codes: &mut [u32; 31]) -> Result<(usize, us
 {
     let mut i = at;
     for (n, code) in codes.iter_mut().enumerate() {
-        let (place, next) = header_fields::place_at(text, i)?;
+        let Ok((place, next)) = header_fields::place_at(text, i) else {
+            return Err(Refusal::NoPlaceAt(i));
+        };
         *code = place;
         if text[i + 6] == 43 {
             return Ok((n + 1, next));
