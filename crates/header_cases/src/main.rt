@@ -151,7 +151,8 @@ fn run<W: Write>(out: &mut W, input: &[u8]) -> io::Result<()> {
     tried_in(out, good(), &mut [0u8; 42])
 }
 
-// Reads an input until it ends or the space is full. Says how many bytes it brought.
+// Reads an input until it ends or the space is full. Says how many bytes it brought. It counts by itself: `read_exact` refuses an input that
+// ends before the space does, and `read_to_end` needs a heap.
 fn read_full<R: Read>(input: &mut R, space: &mut [u8]) -> io::Result<usize>
     ensures { IfOk result (λ n. n ≤ length space.new) }
 {
