@@ -37,7 +37,8 @@ pub fn digits_at(text: &[u8], at: usize, width: usize) -> Option<u32>
     Some(n)
 }
 
-// Puts one byte at index at and says yes, or says no where there is no room for it and writes nothing.
+// Puts one byte at index at and says yes, or says no where there is no room for it and writes nothing. A yes or no is enough, here and below:
+// every caller has asked for room.
 pub fn put_byte(out: &mut [u8], at: usize, b: u8) -> bool
     ensures { PutPromise out.old at (b ∷ []) result out.new }
 {

@@ -5,8 +5,8 @@ ghost use Rattle.std.specs.Prelude.{◌≡◌};
 ghost use Rattle.header.specs.Header.{is_sender_byte};
 ghost use Rattle.header.specs.Promise.{IsOriginPromise, IsEventPromise, IsSenderPromise, IsDurationOfPromise, IsIssuePromise, IsDurationPromise};
 
-// The fields of a header: `count` of the places stand, and the rest are 0. The duration is in minutes. Numbers come before bytes,
-// so that no gap stands between two fields and a copy is one piece.
+// The fields of a header: `count` of the places stand, and the rest are 0. An array and a count, since the library has no heap and C lends the
+// same words. The duration is in minutes. Numbers come before bytes, so that no gap stands between two fields and a copy is one piece.
 #[derive(Clone, Copy)]
 pub struct Fields {
     pub places: [u32; 31],
