@@ -8,10 +8,11 @@
 
 ghost use Rattle.std.specs.Prelude.{◌≡◌, ◌<◌, ◌≤◌, length, IfOk};
 
-use book_edits::Edited;
-use codec::Number;
+use refusals::Refusal;
 use std::io;
 use std::io::Write;
+
+type Book = [u32; 8293];
 
 // Four items with two words left over; three with a wish 0 in the second; a doubled one.
 const ITEMS: [u32; 29] = [
@@ -19,63 +20,35 @@ const ITEMS: [u32; 29] = [
     39173, 12, 63, 39051, 7, 1, 39051, 7, 2,
 ];
 
-fn number_of(answer: Edited) -> u32 {
+// The number of a refusal, 0 where there is none.
+fn number_of(answer: Result<(), Refusal>) -> u32 {
     match answer {
-        Edited::Done => 0,
-        Edited::Refused(n) => n,
-    }
-}
-
-// 1 where the edit was done.
-fn one_done(answer: Edited) -> u32
-    ensures { result ≤ 1 }
-{
-    match answer {
-        Edited::Done => 1,
-        Edited::Refused(_) => 0,
+        Ok(()) => 0,
+        Err(refusal) => refusal.number(),
     }
 }
 
 // The sum of all words.
-fn sum_of(book: &[u32]) -> u64 {
-    let mut sum: u64 = 0;
-    for word in book {
-        sum = sum.wrapping_add(*word as u64);
-    }
-    sum
+fn sum_of(book: &Book) -> u64 {
+    book.iter()
+        .fold(0, |sum: u64, word| sum.wrapping_add(u64::from(*word)))
 }
 
 // Puts a word in, whatever the rules say.
-fn poke(book: &mut [u32], i: usize, word: u32) -> u32 {
+fn poke(book: &mut Book, i: usize, word: u32) -> u32 {
     if i < book.len() {
         book[i] = word;
     }
     0
 }
 
-// An addition to all words but the last.
-fn add_short(book: &mut [u32], place: u32, client: u32, wish: u32) -> u32 {
-    if book.len() == 0 {
-        return 0;
-    }
-    let last = book.len() - 1;
-    number_of(book_edits::add(&mut book[..last], place, client, wish))
-}
-
-// A load of some words of a list.
-fn load_some(book: &mut [u32], items: &[u32], from: usize, to: usize) -> u32 {
-    if items.len() < to {
-        return 0;
-    }
-    if to < from {
-        return 0;
-    }
-    number_of(book_loads::load(book, &items[from..to]))
-}
-
-fn load_items(book: &mut [u32], from: usize, to: usize) -> u32 {
+// A load of the words of ITEMS from one index up to another, if they are there.
+fn load_items(book: &mut Book, from: usize, to: usize) -> u32 {
     let items = ITEMS;
-    load_some(book, &items, from, to)
+    match items.get(from..to) {
+        Some(items) => number_of(book_loads::load(book, items)),
+        None => 0,
+    }
 }
 
 // The subscriptions that fill a book: places and clients by number, rising with i.
@@ -86,56 +59,49 @@ fn place_by(i: u32) -> u32
 }
 
 // Adds all 4,096, the last one first; answers how many were done.
-fn fill(book: &mut [u32]) -> u32 {
-    let mut count: u32 = 0;
-    for done in 0..4096 {
-        let i = 4095 - done;
-        count += one_done(book_edits::add(book, place_by(i), 1 + i % 9999, 1 + i % 63));
+fn fill(book: &mut Book) -> u32 {
+    let mut count = 0;
+    for i in (0..4096).rev() {
+        if book_edits::add(book, place_by(i), 1 + i % 9999, 1 + i % 63).is_ok() {
+            count += 1;
+        }
     }
     count
 }
 
 // Removes all 4,096, the first one first; answers how many were done.
-fn empty(book: &mut [u32]) -> u32 {
-    let mut count: u32 = 0;
+fn empty(book: &mut Book) -> u32 {
+    let mut count = 0;
     for i in 0..4096 {
-        count += one_done(book_edits::remove(book, place_by(i), 1 + i % 9999));
+        if book_edits::remove(book, place_by(i), 1 + i % 9999).is_ok() {
+            count += 1;
+        }
     }
     count
 }
 
-// Lists the same 4,096 as items, in an order far from their own.
-fn list_all(items: &mut [u32])
-    requires { length items.old ≡ 12288 }
-{
-    for i in 0..4096u32 {
-        let k = i * 2731 % 4096;
-        let at = 3 * i as usize;
-        items[at] = place_by(k);
-        items[at + 1] = 1 + k % 9999;
-        items[at + 2] = 1 + k % 63;
+// Loads the same 4,096 at once, in an order far from their own, the last one with this wish.
+fn load_all(book: &mut Book, wish: u32) -> u32 {
+    let mut items = [[0u32; 3]; 4096];
+    for (i, item) in items.iter_mut().enumerate() {
+        let k = i as u32 * 2731 % 4096;
+        *item = [place_by(k), 1 + k % 9999, 1 + k % 63];
     }
+    items[4095][2] = wish;
+    number_of(book_loads::load(book, items.as_flattened()))
 }
 
-// Loads all 4,096 at once, the last one with this wish.
-fn load_all(book: &mut [u32], wish: u32) -> u32 {
-    let mut items = [0u32; 12288];
-    list_all(&mut items);
-    items[12287] = wish;
-    number_of(book_loads::load(book, &items))
-}
-
-fn edited(book: &mut [u32], kind: u8, a: u32, b: u32, c: u32) -> u32 {
+fn edited(book: &mut Book, kind: u8, a: u32, b: u32, c: u32) -> u32 {
     match kind {
         b'a' => number_of(book_edits::add(book, a, b, c)),
         b'r' => number_of(book_edits::remove(book, a, b)),
         b'p' => poke(book, a as usize, b),
-        b's' => add_short(book, a, b, c),
+        b's' => number_of(book_edits::add(&mut book[..8292], a, b, c)),
         _ => load_items(book, a as usize, b as usize),
     }
 }
 
-fn edited_all(book: &mut [u32], kind: u8, wish: u32) -> u32 {
+fn edited_all(book: &mut Book, kind: u8, wish: u32) -> u32 {
     match kind {
         b'f' => fill(book),
         b'e' => empty(book),
@@ -143,123 +109,52 @@ fn edited_all(book: &mut [u32], kind: u8, wish: u32) -> u32 {
     }
 }
 
-fn say<W: Write>(out: &mut W, text: &[u8]) -> io::Result<()> {
-    out.write_all(text)
+// A line up to its first space, and what follows that space.
+fn cut(line: &[u8]) -> (&[u8], &[u8]) {
+    let mut parts = line.splitn(2, |b| *b == b' ');
+    (parts.next().unwrap_or(b""), parts.next().unwrap_or(b""))
 }
 
-fn number<W: Write>(out: &mut W, n: u64) -> io::Result<()> {
-    write!(out, "{n}")
-}
-
-// Prints what is to be seen of a book.
-fn print_book<W: Write>(out: &mut W, book: &[u32]) -> io::Result<()> {
-    if book_check::is_good(book) {
-        say(out, b", good, sum ")?;
-    } else {
-        say(out, b", bad, sum ")?;
-    }
-    number(out, sum_of(book))?;
-    say(out, b"\n")
-}
-
-// The index of the next byte b from an index on, or the length.
-fn find(input: &[u8], at: usize, b: u8) -> usize
-    requires { at ≤ length input.now }
-    ensures from { at ≤ result }
-    ensures within { result ≤ length input.now }
-{
-    match input[at..].iter().position(|x| *x == b) {
-        Some(k) => at + k,
-        None => input.len(),
-    }
-}
-
-// Where the next word of a line starts, or the line's length.
-fn past(line: &[u8], at: usize) -> usize
-    requires { at ≤ length line.now }
-    ensures { result ≤ length line.now }
-{
-    let end = find(line, at, b' ');
-    if end < line.len() { end + 1 } else { end }
-}
-
-// The number at an index of a line.
-fn word(line: &[u8], at: usize) -> u32
-    requires { at ≤ length line.now }
-{
-    let end = find(line, at, b' ');
-    match codec::digits_at(line, at, end - at) {
-        Number::Is(n) => n,
-        Number::NoNumber => 0,
-    }
-}
-
-fn one_edit<W: Write>(
-    out: &mut W,
-    book: &mut [u32],
-    line: &[u8],
-    kind: u8,
-    a: usize,
-    b: usize,
-    c: usize,
-) -> io::Result<()>
-    requires { (a ≤ length line.now) × (b ≤ length line.now) × (c ≤ length line.now) }
-{
-    say(out, line)?;
-    say(out, b" = ")?;
-    number(
-        out,
-        edited(book, kind, word(line, a), word(line, b), word(line, c)) as u64,
-    )
-}
-
-fn all_edits<W: Write>(
-    out: &mut W,
-    book: &mut [u32],
-    line: &[u8],
-    kind: u8,
-    a: usize,
-) -> io::Result<()>
-    requires { a ≤ length line.now }
-{
-    say(out, &line[..a])?;
-    number(out, edited_all(book, kind, word(line, a)) as u64)
+// The number that a word says, 0 where it says none.
+fn number(word: &[u8]) -> u32 {
+    codec::digits_at(word, 0, word.len()).unwrap_or(0)
 }
 
 // One edit, or all 4,096, by how many numbers the line has.
-fn edit_by<W: Write>(
-    out: &mut W,
-    book: &mut [u32],
-    line: &[u8],
-    a: usize,
-    b: usize,
-    c: usize,
-) -> io::Result<()>
-    requires { (a ≤ length line.now) × (b ≤ length line.now) × (c ≤ length line.now) }
-{
-    if line.len() == 0 {
+fn edit<W: Write>(out: &mut W, book: &mut Book, line: &[u8]) -> io::Result<()> {
+    let Some(kind) = line.first() else {
         return Ok(());
+    };
+    let (_, numbers) = cut(line);
+    let (a, rest) = cut(numbers);
+    let (b, rest) = cut(rest);
+    if rest.is_empty() {
+        out.write_all(line.strip_suffix(numbers).unwrap_or(line))?;
+        return write!(out, "{}", edited_all(book, *kind, number(a)));
     }
-    if c < line.len() {
-        return one_edit(out, book, line, line[0], a, b, c);
-    }
-    all_edits(out, book, line, line[0], a)
+    let (c, _) = cut(rest);
+    out.write_all(line)?;
+    write!(
+        out,
+        " = {}",
+        edited(book, *kind, number(a), number(b), number(c))
+    )
 }
 
-fn case<W: Write>(out: &mut W, book: &mut [u32], line: &[u8]) -> io::Result<()> {
-    let a = past(line, 0);
-    let b = past(line, a);
-    let c = past(line, b);
-    edit_by(out, book, line, a, b, c)?;
-    print_book(out, book)
+// An edit, and what is then to be seen of the book.
+fn case<W: Write>(out: &mut W, book: &mut Book, line: &[u8]) -> io::Result<()> {
+    edit(out, book, line)?;
+    let kept = if book_check::is_good(book) {
+        "good"
+    } else {
+        "bad"
+    };
+    writeln!(out, ", {kept}, sum {}", sum_of(book))
 }
 
-fn cases<W: Write>(out: &mut W, book: &mut [u32], input: &[u8]) -> io::Result<()> {
-    let mut at: usize = 0;
-    while at < input.len() {
-        let e = find(input, at, b'\n');
-        case(out, book, &input[at..e])?;
-        at = e + 1;
+fn cases<W: Write>(out: &mut W, book: &mut Book, input: &[u8]) -> io::Result<()> {
+    for line in input.split_inclusive(|b| *b == b'\n') {
+        case(out, book, line.strip_suffix(b"\n").unwrap_or(line))?;
     }
     Ok(())
 }

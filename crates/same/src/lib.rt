@@ -100,12 +100,10 @@ pub extern "C" fn same_matches(watched: u32, sent: u32) -> u32
 pub extern "C" fn same_good(book: &[u32]) -> u64
     ensures { SameGoodPromise book.now result }
 {
-    let good = if book_check::is_good(book) {
-        Ok(())
-    } else {
-        Err(Refusal::BadBook)
-    };
-    told(good)
+    if book_check::is_good(book) {
+        return told::<(), Refusal>(Ok(()));
+    }
+    told::<(), Refusal>(Err(Refusal::BadBook))
 }
 
 // Adds one subscription, or says 16, 17, 18, 19, 20 or 22 and writes nothing.
