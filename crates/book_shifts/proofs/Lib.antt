@@ -1,2 +1,3 @@
+pub mod Moved
 pub mod Fitting
 pub mod NoChoice

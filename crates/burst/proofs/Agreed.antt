@@ -55,20 +55,23 @@ none_at true j e = clash cc
 none_at false j e = refl
 
 module _ (p q : List ℕ) (m n : ℕ) (h : m ≤ n) (r : n ≤ length p) (t : n ≤ length q) where
+  long : length (zip (stretch p m n) (stretch q m n)) ≡ n - m
+  long =
+      length-zip (stretch p m n) (stretch q m n)
+      ∙ omega (arith, length_part p m (n - m) (omega arith), length_part q m (n - m) (omega arith))
+
   pub found : (k : ℕ) → Some k ≡ position differ (zip (stretch p m n) (stretch q m n)) → (m + k < n) × (m + k ≡ first_difference p q m n)
   found k e =
       let z = zip (stretch p m n) (stretch q m n) in
       let f = some_at (ltb (position_or_len differ z) (length z)) (position_or_len differ z) k e in
-      let l : length z ≡ n - m = length-zip (stretch p m n) (stretch q m n) ∙ omega (arith, length_part p m (n - m) (omega arith), length_part q m (n - m) (omega arith)) in
       let b : position_or_len differ z < length z = ltb-true _ _ f.0 in
-      (omega (arith, f.1), ap (λ (j : ℕ). m + j) f.1 ∙ sought p q m (n - m) (omega arith) (omega arith))
+      (omega (arith, f.1, long), ap (λ (j : ℕ). m + j) f.1 ∙ sought p q m (n - m) (omega arith) (omega arith))
 
   pub not_found : None ≡ position differ (zip (stretch p m n) (stretch q m n)) → n ≤ first_difference p q m n
   not_found e =
       let z = zip (stretch p m n) (stretch q m n) in
-      let l : length z ≡ n - m = length-zip (stretch p m n) (stretch q m n) ∙ omega (arith, length_part p m (n - m) (omega arith), length_part q m (n - m) (omega arith)) in
       let b : length z ≤ position_or_len differ z = ltb-false _ _ (none_at (ltb (position_or_len differ z) (length z)) (position_or_len differ z) e) in
-      omega (arith, sought p q m (n - m) (omega arith) (omega arith))
+      omega (arith, long, sought p q m (n - m) (omega arith) (omega arith))
 
 -- ---- two bursts searched, three written
 

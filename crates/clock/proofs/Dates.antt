@@ -14,7 +14,6 @@ use Rattle.laws.proofs.Tests.{and_l, and_r}
 use Rattle.laws.proofs.All.{all_at}
 use Rattle.clock.specs.Clock.{leap, has_day}
 use Rattle.clock.specs.Calendar.{months, months_of, dated, calendar, entry_of, split, date_of}
-use Rattle.clock.specs.Steps.{Entry}
 use Rattle.clock.proofs.Ranges.{has_day_low, has_day_high}
 
 -- ---- both kinds of years go alike up to February 28, and after that one entry apart
@@ -55,20 +54,21 @@ pub by_months : (year day : ℕ) → has_day year day ≡ true → date_of year 
 unfolding date_of
 by_months year day h = ap split (by_kind (leap year) day (has_day_low year day h))
 
--- ---- the index of the entry
+-- ---- the index of the entry is one of the table's
 
-module _ (year day : ℕ) (h : has_day year day ≡ true) where
-  days : (b : Bool) → leap year ≡ b → day ≤ choose b 366 365
-  days b e = rw (← e) (has_day_high year day h)
+pub entry_low : (year day : ℕ) → has_day year day ≡ true → entry_of year day < 366
+entry_low year day h = by (leap year) refl
+  where
+    days : (b : Bool) → leap year ≡ b → day ≤ choose b 366 365
+    days b e = rw (← e) (has_day_high year day h)
 
-  pub entry_leap : leap year ≡ true → Entry year day (day - 1)
-  entry_leap e = record { is = simp e; low = omega (arith, has_day_low year day h, days true e) }
-
-  pub entry_sooner : leap year ≡ false → day < 60 → Entry year day (day - 1)
-  entry_sooner e l = record { is = simp (e, lt-leb 60 day l); low = omega arith }
-
-  pub entry_later : leap year ≡ false → 60 ≤ day → Entry year day day
-  entry_later e l = record { is = simp (e, le-leb 60 day l); low = omega (arith, days false e) }
+    by : (b : Bool) → leap year ≡ b → choose (not b && leb 60 day) day (day - 1) < 366
+    by true e = omega (arith, has_day_low year day h, days true e)
+    by false e =
+        elim (dec_lt day 60) [
+          | yes p ↦ rw (lt-leb 60 day p) (omega arith)
+          | no q ↦ rw (le-leb 60 day (omega arith)) (omega (arith, days false e))
+        ]
 
 -- ---- months 1 to 12, days 1 to 31
 
@@ -80,15 +80,7 @@ unfolding dated all
 fair_entry i h = all_at 366 i (λ k. fair (calendar k)) refl h
 
 fair_date : (year day : ℕ) → has_day year day ≡ true → fair (calendar (entry_of year day)) ≡ true
-fair_date year day h = by (leap year) refl
-  where
-    by : (b : Bool) → leap year ≡ b → fair (calendar (entry_of year day)) ≡ true
-    by true e = let k = entry_leap year day h e in fair_entry (entry_of year day) (omega (arith, k.is, k.low))
-    by false e =
-        elim (dec_lt day 60) [
-          | yes p ↦ let k = entry_sooner year day h e p in fair_entry (entry_of year day) (omega (arith, k.is, k.low))
-          | no q ↦ let k = entry_later year day h e (omega arith) in fair_entry (entry_of year day) (omega (arith, k.is, k.low))
-        ]
+fair_date year day h = fair_entry (entry_of year day) (entry_low year day h)
 
 pub date_range : (year day : ℕ) → has_day year day ≡ true
     → (within 1 12 (date_of year day).month ≡ true) × (within 1 31 (date_of year day).day ≡ true)

@@ -4,7 +4,6 @@ use Rattle.refusals.specs.Refusals.{says}
 use Rattle.refusals.specs.declared.Refusal.{Refusal}
 use Rattle.clock.specs.Answers.{asked}
 use Rattle.clock.specs.Clock.{has_day, is_clock}
-use Rattle.clock.specs.Calendar.{entry_of}
 use Rattle.header.specs.Header.{is_issue, is_duration}
 use Rattle.clock.specs.Lifetime.{year_of, minute_of, issue_of}
 use Rattle.clock.specs.declared.Clock.{Clock}
@@ -21,11 +20,6 @@ abbrev pub Issued : Clock → ℕ → ℕ → ℕ → ℕ → Result Clock Refus
 Issued at day hour minute duration r =
     MatchResult r (λ t. (t ≡ issue_of at day hour minute) × Fit at day hour minute duration)
     (λ e. says e ≡ asked at day hour minute duration)
-
--- an index of the calendar
-pub record Entry (year day r : ℕ) : Type 0 where
-  pub is : r ≡ entry_of year day
-  pub low : r < 366
 
 -- a day, hour and minute of some year, and the minutes from its start
 pub record OfYear (day hour minute : ℕ) : Type 0 where

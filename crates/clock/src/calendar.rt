@@ -1,8 +1,7 @@
 // The days of a year, and the date of each.
 ghost use Rattle.std.specs.Prelude.{◌≡◌, true, ◌<◌};
 ghost use Rattle.clock.specs.Clock.{leap, days_in, has_day};
-ghost use Rattle.clock.specs.Calendar.{calendar, date_of};
-ghost use Rattle.clock.specs.Steps.{Entry};
+ghost use Rattle.clock.specs.Calendar.{calendar, entry_of, date_of};
 
 use crate::MonthDay;
 use crate::table::CALENDAR;
@@ -38,11 +37,14 @@ fn entry(i: usize) -> u16
 
 // The entry of a day: in years that are no leap years the next from day 60 on.
 fn entry_of(year: u32, day: u32) -> usize
-    requires { has_day year day ≡ true }
-    ensures { Entry year day result }
+    ensures { result ≡ entry_of year day }
 {
     let i = day as usize;
-    if is_leap(year) || i < 60 { i - 1 } else { i }
+    if is_leap(year) || i < 60 {
+        i.saturating_sub(1)
+    } else {
+        i
+    }
 }
 
 // Month and day of a day that the year has. One look at the calendar.

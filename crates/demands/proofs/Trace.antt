@@ -1,6 +1,6 @@
 -- The names of this folder that docs/TRACE.md and docs/PROMISES.md go by. Written by docs/tools/trace.
 use Rattle.book_check.proofs.Told.{told}
-use Rattle.book_edits.proofs.NoChoice.{load_refusal_writes_nothing, said_one}
+use Rattle.book_edits.proofs.NoChoice.{load_refusal_writes_nothing}
 use Rattle.book_history.proofs.Loads.{any_order}
 use Rattle.book_history.proofs.Proved.{form_book_and_history}
 use Rattle.book_rules.proofs.Counts.{count_told}
@@ -15,7 +15,7 @@ use Rattle.burst.proofs.Consequence.{consequence}
 use Rattle.burst.proofs.Heard.{clash_lowest, clash_there}
 use Rattle.burst.proofs.Lengths.{each_short, middle_of, none_long}
 use Rattle.burst.proofs.NoChoice.Granted.{fits_each}
-use Rattle.burst.proofs.NoChoice.{leading_no_choice, said_one_to_one, strip_no_choice, strip_only_preamble, strip_says, vote_granted, vote_no_choice}
+use Rattle.burst.proofs.NoChoice.{leading_no_choice, strip_no_choice, strip_only_preamble, strip_says, vote_granted, vote_no_choice}
 use Rattle.burst.proofs.NoChoice.{vote_writes_the_voted_length}
 use Rattle.burst.proofs.Preambles.{all_lead, as_01, as_01_only, drops_16, drops_all, from_16, near, nine, only_preamble, rest_kept}
 use Rattle.burst.proofs.Stripped.{drops_lead, lead_is, lead_most, stripped_bytes, stripped_rest}
@@ -26,7 +26,6 @@ use Rattle.clock.proofs.Cases.{leap_60, lifetime_366, plain_366, plain_60, times
 use Rattle.clock.proofs.Dates.{by_months, date_range}
 use Rattle.clock.proofs.Header.{bad_clock_refused, header_times, no_day_refused}
 use Rattle.clock.proofs.Moments.{in_that_year, year_is}
-use Rattle.clock.proofs.NoChoice.{checked_one, date_one, life_one, timed_one}
 use Rattle.clock.proofs.Phases.{one_phase, phase_holds, phase_only}
 use Rattle.clock.proofs.Ranges.{clock_day, clock_from, clock_year, days_high, days_low}
 use Rattle.clock.proofs.Until.{one_time, until_exists, until_moment}
@@ -47,7 +46,7 @@ use Rattle.header.proofs.Allowed.{duration_ok, issue_ok}
 use Rattle.header.proofs.Callers.{duration_bounds}
 use Rattle.header.proofs.Cases.{d0000, d0115, d0130, d9930, none_more, one_more, sample_long, sample_reads, too_long}
 use Rattle.header.proofs.Exact.{form_no_room, read_write, write_exactly, write_read, write_read_same}
-use Rattle.header.proofs.NoChoice.{said_one as header_NoChoice_said_one, wrote_one}
+use Rattle.header.proofs.NoChoice.{said_one, wrote_one}
 use Rattle.header.proofs.Round.{duration_law, event_law, header_law, issue_law, origin_law, place_law, places_law, read_form, reads_exactly, sender_law}
 use Rattle.header.proofs.Round.{start_law, text_length}
 use Rattle.header.proofs.Stopping.{read_stops, stops_read, stops_table, table_stops}
@@ -71,6 +70,9 @@ use Rattle.place.proofs.Matching.{amends, cases, has_state, matches_from, matche
 use Rattle.place.proofs.Matching.{some_national, some_none, some_skipped}
 use Rattle.place.proofs.Packed.{packed_match_is, packed_some}
 use Rattle.place.proofs.Words.{before_word, fine, place_back, word_back, word_before, word_high, word_low}
+use Rattle.refusals.proofs.Apart.{says_one}
+use Rattle.refusals.proofs.NoChoice.{said_one as refusals_NoChoice_said_one}
+use Rattle.refusals.proofs.Said.{leaves_refused, never_granted, next_refused}
 use Rattle.report.proofs.Exact.{nothing_hit, report_exact}
 use Rattle.report.proofs.Found.{hits_found}
 use Rattle.report.proofs.Given.{given as report_Given_given}

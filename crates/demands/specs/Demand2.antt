@@ -17,7 +17,7 @@ use Rattle.header.specs.Header.{Alert, is_origin, is_event, is_issue, is_duratio
 use Rattle.header.specs.Reading.{read_says}
 use Rattle.refusals.specs.Refusals.{said}
 use Rattle.refusals.specs.declared.Refusal.{Refusal}
-use Rattle.header.specs.Answers.{said_read, alert_in, fields_of}
+use Rattle.header.specs.Answers.{said_read, fields_read, alert_in, fields_of}
 use Rattle.header.specs.Promise.{ReadPromise, WritePromise}
 use Rattle.header.specs.declared.Fields.{Fields}
 use Rattle.event.specs.Events.{events, no_double, is_listed}
@@ -78,13 +78,13 @@ pub record ReadingAndWriting : Type 0 where
   -- carries, come back as zeros
   pub write_read : (f : Fields) (out left : List ℕ) (w : Result ℕ Refusal) (n : ℕ) (r : Result Fields Refusal) → WritePromise f out left w → said w ≡ granted n
       → ReadPromise (take n left) r
-      → (said_read r ≡ granted (alert_in f)) × (r.fields ≡ fields_of (alert_in f))
+      → (said_read r ≡ granted (alert_in f)) × (fields_read r ≡ fields_of (alert_in f))
   pub write_read_same : (f : Fields) (out left : List ℕ) (w : Result ℕ Refusal) (n : ℕ) (r : Result Fields Refusal) → WritePromise f out left w → said w ≡ granted n
       → ReadPromise (take n left) r
-      → f.count ≤ 31 → drop f.count f.places ≡ replicate (31 - f.count) 0 → length f.places ≡ 31 → r.fields ≡ f
+      → f.count ≤ 31 → drop f.count f.places ≡ replicate (31 - f.count) 0 → length f.places ≡ 31 → fields_read r ≡ f
   -- "a text that was read writes back the same", where there is room
   pub read_write : (text : List ℕ) (r : Result Fields Refusal) (a : Alert) (out left : List ℕ) (w : Result ℕ Refusal) → ReadPromise text r → said_read r ≡ granted a
-      → WritePromise r.fields out left w
+      → WritePromise (fields_read r) out left w
       → length text ≤ length out → (said w ≡ granted (length text)) × (left ≡ pasted out 0 text)
 
 -- ---- ".. event classes .."

@@ -1,5 +1,4 @@
 -- The names of this folder that docs/TRACE.md and docs/PROMISES.md go by. Written by docs/tools/trace.
-use Rattle.book_edits.specs.Answer.{said_edited}
 use Rattle.book_edits.specs.Promise.LoadPromise.{lent}
 use Rattle.book_history.specs.Statements.History.{agree, answers, equals, is_built, leaves, members, tallies, together}
 use Rattle.book_history.specs.Statements.{HistoryFrom, Holdings, LoadIsAdding, LoadIsBuilding, NotIdle, RankOrder}
@@ -23,7 +22,7 @@ use Rattle.burst.specs.Sent.Sent.{middle, right}
 use Rattle.burst.specs.Strip.{lead, lead_up_to, preamble, stripped}
 use Rattle.burst.specs.Vote.{clash, clash_at, heard, middle as burst_Vote_middle, settled, too_long, vote_rows, vote_says, voted_length}
 use Rattle.c_answers.specs.Answer.{in_halves}
-use Rattle.clock.specs.Answers.{asked, clock_says, date_says, lifetime_says, said_checked, said_date, said_life, said_timed, times_says}
+use Rattle.clock.specs.Answers.{asked, clock_says, date_says, lifetime_says, times_says}
 use Rattle.clock.specs.Calendar.{calendar, date_of, dated, entry_of}
 use Rattle.clock.specs.Clock.{days_in, has_day, is_clock, leap}
 use Rattle.clock.specs.Lifetime.{early, expired, lifetime_of, minute_of, moment_in, phase_of, time_in, until_of, year_of}
@@ -57,14 +56,14 @@ use Rattle.demands.specs.Program.{ProgramNumbers}
 use Rattle.demands.specs.Program.ProgramNumbers.{only_23, says_23}
 use Rattle.event.specs.Class.{by_third, class_of}
 use Rattle.event.specs.Events.{events, is_listed}
-use Rattle.header.specs.Answers.{fields_of, said_read, said_wrote}
+use Rattle.header.specs.Answers.{fields_of, said_read}
 use Rattle.header.specs.Header.{duration, event, front, header, in_hours, in_minutes, is_duration, is_duration_of, is_event, is_issue, is_origin}
 use Rattle.header.specs.Header.{is_sender_byte, issue, origin, place, sender, start as header_Header_start, text_of}
 use Rattle.header.specs.Reading.ReadStops.{long}
 use Rattle.header.specs.Reading.{TableStops, read_says, to_the_end}
 use Rattle.header.specs.Writing.{write_rows, write_says}
-use Rattle.header_fields.specs.Says.{place_says}
-use Rattle.input_lines.specs.Answers.{said_client, said_header, said_now, said_sub}
+use Rattle.header_fields.specs.Says.{told}
+use Rattle.input_lines.specs.Answers.{header_parts, now_parts, sub_parts}
 use Rattle.input_lines.specs.Forms.{client_line, header_line, now_line, sub_line}
 use Rattle.input_lines.specs.LineByLine.{each_line, one_line}
 use Rattle.input_lines.specs.Lines.{is_line, pieces, whole}
@@ -74,13 +73,14 @@ use Rattle.laws.specs.Space.{leaves as laws_Space_leaves, pasted}
 use Rattle.page.specs.Input.{adds_line, input_says, lines_say, report_shows}
 use Rattle.page.specs.Page.{page_of, printed, shown_text}
 use Rattle.page_printing.specs.Page.{ended, page_lines, page_text, refused_text}
-use Rattle.page_printing.specs.Promise.{print_says, said_printed}
+use Rattle.page_printing.specs.Promise.{print_says}
 use Rattle.place.specs.FirstWord.{bad_place, first_word}
 use Rattle.place.specs.Meaning.{ByParts}
 use Rattle.place.specs.Meaning.Match.{by_parts, whole_country}
 use Rattle.place.specs.Packed.{packed_match}
 use Rattle.place.specs.Place.{county, match_by_parts, matches, matches_some, meet, part, state}
-use Rattle.report.specs.Answers.{answer_of}
+use Rattle.refusals.specs.Refusals.{said, says}
+use Rattle.report.specs.Answers.{answer_says}
 use Rattle.report.specs.Exact.{After, Lists, wanted}
 use Rattle.report.specs.Exact.Lists.{exactly, order as report_Exact_order}
 use Rattle.report.specs.Hits.{has_class, hits_of, is_of, matching, pairs}

@@ -54,3 +54,7 @@ pub found : (e : List ℕ) (row : Option (Bor (List ℕ × ℕ))) (r : Option �
 found e None r p q = rw (q, ← listed e) (subst (Has e codes) (sym p) (first e codes))
 found e (Some x) (Some k) p q = rw (q, ← listed e) (subst (Has e codes) (sym p) (first e codes))
 found e (Some x) None p q = absurd q
+
+-- the class that the table has for a listed code is the code's
+pub listed_class : (e : List ℕ) (k : ℕ) → Found e (Some k) → k ≡ class_of e
+listed_class e k f = f.1

@@ -21,7 +21,7 @@ use Rattle.header.specs.declared.Fields.{Fields}
 use Rattle.header.proofs.Round.{front_law, front_sized}
 use Rattle.header.proofs.Says.{over, stops, beyond, ends, no_front, before_sender, counted_take, filled}
 use Rattle.header_fields.proofs.Told.{stopped}
-use Rattle.header_reading.specs.Steps.{Filled, FrontOf, before, times}
+use Rattle.header_reading.specs.Steps.{Filled, FrontOf, before}
 use Rattle.header_reading.specs.declared.Front.{Front}
 
 stops_with : (t : List ℕ) (e : Refusal) (n i : ℕ) → says {A = Alert} e ≡ refused_at n i → read_says t ≡ refused_at n i → ReadPromise t (Err e)
@@ -95,9 +95,9 @@ module _ (t codes : List ℕ) (short : length t ≤ 252) where
         places = codes;
         duration = f.minutes;
         count = f.count;
-        day = f.issue.day;
-        hour = f.issue.hour;
-        minute = f.issue.minute;
+        day = f.day;
+        hour = f.hour;
+        minute = f.minute;
         origin = o;
         event = e;
         sender = w;
@@ -108,4 +108,4 @@ module _ (t codes : List ℕ) (short : length t ≤ 252) where
       all_read o e w qo qe qw l =
           an_answer t (fields_of o e w) p.1
           (ends t (all, take 8 (drop j t)) (j + 9) short l after
-          ∙ (λ q. granted (alert_of ((tt, (sym qo q, (sym qe q, (take f.count codes, times f.minutes f.issue)))), sym qw q))))
+          ∙ (λ q. granted (alert_of ((tt, (sym qo q, (sym qe q, (take f.count codes, (f.minutes, (f.day, (f.hour, f.minute))))))), sym qw q))))

@@ -7,16 +7,16 @@ use lib.ListN.{length, take, drop}
 use native.Mathlib.Omega.{arith}
 use Rattle.std.specs.Prelude.{Ok, Err}
 use Rattle.refusals.specs.declared.Refusal.{Refusal}
-use Rattle.codec.specs.Codec.{fits, is}
+use Rattle.refusals.specs.declared.Refusal.TheVariants.{NoDurationAt, NoIssueAt}
+use Rattle.codec.specs.Codec.{got, no, fits, is, field}
 use Rattle.codec.proofs.Stages.{At, last, last_stop, left_inside}
-use Rattle.header.specs.Header.{dash, start, origin, event, Front as Opened, front as table}
+use Rattle.header.specs.Header.{dash, start, origin, event, duration, issue, Front as Opened, front as table}
 use Rattle.header.specs.Parts.{places, duration_and_issue}
 use Rattle.header.proofs.Round.{front_law}
-use Rattle.header.proofs.Stages.{at_13, no_list, at_times}
+use Rattle.header.proofs.Stages.{at_13, no_list, at_times, no_duration, no_issue, both_times}
 use Rattle.header_fields.specs.Says.{told}
-use Rattle.header_fields.specs.declared.Issue.{Issue}
 use Rattle.header_fields.proofs.Told.{stopped}
-use Rattle.header_reading.specs.Steps.{PlacesAt, TimesAt, FrontOf, times}
+use Rattle.header_reading.specs.Steps.{PlacesAt, FrontOf}
 use Rattle.header_reading.specs.declared.Front.{Front}
 
 module _
@@ -30,17 +30,23 @@ module _
         let s = stopped (Opened × ℕ) (places.get (drop 13 t) 13) e p in
         s.says ∙ ap told (sym (no_list t _ (at_13 t f5 f6 f7) s.its s.at s.stops))
 
-    module _ (n j : ℕ) (p : PlacesAt t 13 codes (Ok (n, j))) where
-      pub list_ends : At t table 0 duration_and_issue j (λ b. (tt, (take 3 (drop 5 t), (take 3 (drop 9 t), (take n codes, b)))))
-      list_ends = at_times t _ (at_13 t f5 f6 f7) (take n codes) j (sym p.0)
+    module _ (c j : ℕ) (p : PlacesAt t 13 codes (Ok (c, j))) where
+      pub list_ends : At t table 0 duration_and_issue j (λ b. (tt, (take 3 (drop 5 t), (take 3 (drop 9 t), (take c codes, b)))))
+      list_ends = at_times t _ (at_13 t f5 f6 f7) (take c codes) j (sym p.0)
 
-      pub times_stop : (e : Refusal) → TimesAt t j (Err e) → FrontOf t codes (Err e)
-      times_stop e q =
-          let s = stopped (Opened × ℕ) (duration_and_issue.get (drop j t) j) e q in
-          s.says ∙ ap told (sym (last_stop list_ends s.its s.at s.stops))
+      pub no_minutes : no 9 j ≡ (field 9 duration dash).get (drop j t) j → FrontOf t codes (Err (NoDurationAt j))
+      no_minutes e = sym (ap told (last_stop list_ends 9 j (sym (no_duration t j list_ends.inside e))))
 
-      pub times_end : (m : ℕ) (w : Issue) → TimesAt t j (Ok (m, w)) → FrontOf t codes (Ok (record { count = n; minutes = m; issue = w; at = j + 13 }))
-      times_end m w q = (sym (last list_ends (times m w) (drop (j + 13) t) (j + 13) (sym q)), p.1)
+      module _ (m : ℕ) (e : got m (drop (j + 5) t) (j + 5) ≡ (field 9 duration dash).get (drop j t) j) where
+        pub no_moment : no 10 (j + 5) ≡ (field 10 issue dash).get (drop (j + 5) t) (j + 5) → FrontOf t codes (Err (NoIssueAt (j + 5)))
+        no_moment w = sym (ap told (last_stop list_ends 10 (j + 5) (sym (no_issue t j list_ends.inside m e w))))
+
+        pub times_end : (d h n : ℕ) → got (d, (h, n)) (drop (j + 5 + 8) t) (j + 5 + 8) ≡ (field 10 issue dash).get (drop (j + 5) t) (j + 5)
+            → FrontOf t codes (Ok (record { count = c; minutes = m; day = d; hour = h; minute = n; at = j + 13 }))
+        times_end d h n w =
+            let x : j + 5 + 8 ≡ j + 13 = omega arith in
+            let both = both_times t j list_ends.inside m e d h n w in
+            (sym (last list_ends (m, (d, (h, n))) (drop (j + 13) t) (j + 13) (sym (rw x at both))), p.1)
 
 pub front_inside : (t codes : List ℕ) (f : Front) → FrontOf t codes (Ok f) → f.at ≤ length t
 front_inside t codes f p = left_inside table front_law t 0 _ (drop f.at t) f.at (sym p.0) (omega arith)

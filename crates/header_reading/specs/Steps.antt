@@ -1,12 +1,11 @@
 -- What the private functions of the reader answer, in the terms of the table.
-use Rattle.std.specs.Prelude.{ℕ, ◌+◌, ◌-◌, ◌≤◌, ◌≡◌, List, length, take, drop, replicate, Result, Ok, Err}
+use Rattle.std.specs.Prelude.{ℕ, ◌-◌, ◌≤◌, ◌≡◌, List, length, take, drop, replicate, Result, Ok, Err}
 use Rattle.refusals.specs.Refusals.{says}
 use Rattle.refusals.specs.declared.Refusal.{Refusal}
 use Rattle.codec.specs.Codec.{Codec, got}
 use Rattle.header.specs.Header.{front as table, Front as Opened}
-use Rattle.header.specs.Parts.{places, duration_and_issue}
+use Rattle.header.specs.Parts.{places}
 use Rattle.header_fields.specs.Says.{told}
-use Rattle.header_fields.specs.declared.Issue.{Issue}
 use Rattle.header_reading.specs.declared.Front.{Front}
 
 -- ---- a part of the table, read at an index: its value and the index behind it, or the refusal
@@ -30,19 +29,10 @@ abbrev pub PlacesAt : List ℕ → ℕ → List ℕ → Result (ℕ × ℕ) Refu
 PlacesAt text at codes (Ok (n, j)) = Gets places text at (take n codes) j × Filled codes n
 PlacesAt text at codes (Err e) = StopsAs places text at e
 
--- ---- duration and issue
-
-abbrev pub times : ℕ → Issue → ℕ × (ℕ × (ℕ × ℕ))
-times m w = (m, (w.day, (w.hour, w.minute)))
-
-abbrev pub TimesAt : List ℕ → ℕ → Result (ℕ × Issue) Refusal → Type 0
-TimesAt text at (Ok (m, w)) = Gets duration_and_issue text at (times m w) (at + 13)
-TimesAt text at (Err e) = StopsAs duration_and_issue text at e
-
 -- ---- everything before the sender
 
 abbrev pub before : List ℕ → List ℕ → Front → Opened
-before text codes f = (tt, (take 3 (drop 5 text), (take 3 (drop 9 text), (take f.count codes, times f.minutes f.issue))))
+before text codes f = (tt, (take 3 (drop 5 text), (take 3 (drop 9 text), (take f.count codes, (f.minutes, (f.day, (f.hour, f.minute)))))))
 
 abbrev pub FrontOf : List ℕ → List ℕ → Result Front Refusal → Type 0
 FrontOf text codes (Ok f) = Gets table text 0 (before text codes f) f.at × Filled codes f.count

@@ -3,10 +3,9 @@
 
 ghost use Rattle.std.specs.Prelude.{◌≡◌, ℕ, ◌+◌, ◌≤◌, length, take, drop, replicate, Ok};
 ghost use Rattle.header.specs.Promise.{ReadPromise};
-ghost use Rattle.header_reading.specs.Steps.{PlacesAt, TimesAt, FrontOf};
+ghost use Rattle.header_reading.specs.Steps.{PlacesAt, FrontOf};
 
 use header::Fields;
-use header_fields::Issue;
 use refusals::Refusal;
 
 // Everything before the sender, but for origin and event: how many places, the duration, the issue, and the index behind them.
@@ -14,18 +13,10 @@ use refusals::Refusal;
 struct Front {
     count: usize,
     minutes: u32,
-    issue: Issue,
+    day: u32,
+    hour: u32,
+    minute: u32,
     at: usize,
-}
-
-// Duration and issue.
-fn times_at(text: &[u8], at: usize) -> Result<(u32, Issue), Refusal>
-    requires { at ≤ length text.now }
-    ensures { TimesAt text.now at result }
-{
-    let minutes = header_fields::minutes_at(text, at).ok_or(Refusal::NoDurationAt(at))?;
-    let issue = header_fields::issue_at(text, at + 5).ok_or(Refusal::NoIssueAt(at + 5))?;
-    Ok((minutes, issue))
 }
 
 // The list of places: how many they are, and the index behind the last mark. After a place comes a mark, after `-` another place. Codes are
@@ -61,11 +52,14 @@ fn front_of(text: &[u8], codes: &mut [u32; 31]) -> Result<Front, Refusal>
         return Err(Refusal::NoEventAt(9));
     }
     let (count, at) = places_at(text, 13, codes)?;
-    let (minutes, issue) = times_at(text, at)?;
+    let minutes = header_fields::minutes_at(text, at).ok_or(Refusal::NoDurationAt(at))?;
+    let issue = header_fields::issue_at(text, at + 5).ok_or(Refusal::NoIssueAt(at + 5))?;
     Ok(Front {
         count,
         minutes,
-        issue,
+        day: issue.day,
+        hour: issue.hour,
+        minute: issue.minute,
         at: at + 13,
     })
 }
@@ -94,9 +88,9 @@ fn signed(text: &[u8], places: [u32; 31], front: Front) -> Result<Fields, Refusa
         places,
         duration: front.minutes,
         count: front.count,
-        day: front.issue.day,
-        hour: front.issue.hour,
-        minute: front.issue.minute,
+        day: front.day,
+        hour: front.hour,
+        minute: front.minute,
         origin: bytes_at(text, 5),
         event: bytes_at(text, 9),
         sender: bytes_at(text, at),

@@ -103,15 +103,23 @@ fn write_hits(records: &[[u32; 2]], wanted: Wanted, sent: &[u32], out: &mut [u32
     e
 }
 
-// The records of a book: words 101 and on, two each, as many as word 100 says.
-fn records_of(book: &[u32]) -> &[[u32; 2]]
-    requires { good form book.now ≡ true }
-    ensures few { length result.now ≤ 4096 }
-    ensures these { recs_in result.now ≡ recs book.now }
-{
-    let n = book[100] as usize;
-    let (records, _) = book[101..101 + 2 * n].as_chunks::<2>();
-    records
+// A book that keeps its rules: it was checked, and need not be again.
+#[derive(Clone, Copy)]
+struct GoodBook<'a> {
+    words: &'a [u32],
+    ghost keeps: { good form words.now ≡ true },
+}
+
+impl<'a> GoodBook<'a> {
+    // Its records: words 101 and on, two each, as many as word 100 says.
+    fn records(self) -> &'a [[u32; 2]]
+        ensures few { length result.now ≤ 4096 }
+        ensures these { recs_in result.now ≡ recs self.entry.words.now }
+    {
+        let n = self.words[100] as usize;
+        let (records, _) = self.words[101..101 + 2 * n].as_chunks::<2>();
+        records
+    }
 }
 
 // Whether the hits of some records find room in so many words. Where all of the records do, the hits need no count.
@@ -124,11 +132,15 @@ fn has_room(records: &[[u32; 2]], wanted: Wanted, sent: &[u32], room: usize) -> 
 
 // Writes the hits where there is room for them. Too little room must write nothing, so it is asked for first: one pass over the
 // records, or two, of which the first counts.
-fn list_hits(book: &[u32], wanted: Wanted, sent: &[u32], out: &mut [u32]) -> Result<usize, Refusal>
-    requires { good form book.now ≡ true }
-    ensures { ListsHits (hit_subs (found wanted sent.now) book.now) out.old result out.new }
+fn list_hits(
+    book: GoodBook<'_>,
+    wanted: Wanted,
+    sent: &[u32],
+    out: &mut [u32],
+) -> Result<usize, Refusal>
+    ensures { ListsHits (hit_subs (found wanted sent.now) book.entry.words.now) out.old result out.new }
 {
-    let records = records_of(book);
+    let records = book.records();
     if !has_room(records, wanted, sent, out.len()) {
         return Err(Refusal::NoRoom);
     }
@@ -146,14 +158,14 @@ fn listed_class_of(event: &[u8; 3]) -> event::ListedClass
 
 // A report once its times are known.
 fn timed_report(
-    book: &[u32],
+    book: GoodBook<'_>,
     client: u32,
     f: header::Fields,
     times: clock::Times,
     out: &mut [u32],
 ) -> Result<Summary, Refusal>
-    requires { (good form book.now ≡ true) × PlacesRead f }
-    ensures { TimedReport times (alert_in f) (hits_of client (alert_in f) (subs form book.now)) out.old result out.new }
+    requires { PlacesRead f }
+    ensures { TimedReport times (alert_in f) (hits_of client (alert_in f) (subs form book.entry.words.now)) out.old result out.new }
 {
     let kind = listed_class_of(&f.event);
     let mut places = f.places;
@@ -175,14 +187,14 @@ fn timed_report(
 
 // A report on an alert that was read.
 fn alert_report(
-    book: &[u32],
+    book: GoodBook<'_>,
     client: u32,
     f: header::Fields,
     at: clock::Clock,
     out: &mut [u32],
 ) -> Result<Summary, Refusal>
-    requires { (good form book.now ≡ true) × Readable f }
-    ensures { AlertReport at (alert_in f) (hits_of client (alert_in f) (subs form book.now)) out.old result out.new }
+    requires { Readable f }
+    ensures { AlertReport at (alert_in f) (hits_of client (alert_in f) (subs form book.entry.words.now)) out.old result out.new }
 {
     let times = clock::times_of(at, f.day, f.hour, f.minute, f.duration)?;
     timed_report(book, client, f, times, out)
@@ -202,9 +214,10 @@ pub fn report(
     if !book_check::is_good(book) {
         return Err(Refusal::BadBook);
     }
+    let good = GoodBook { words: book };
     if book_records::bad_client(client) {
         return Err(Refusal::BadClient);
     }
     let fields = header_reading::read(header)?;
-    alert_report(book, client, fields, at, out)
+    alert_report(good, client, fields, at, out)
 }

@@ -1,10 +1,12 @@
 -- Start, origin and event stand there, one after the other; then the list of places; then duration and issue.
 use mathlib.Core.Path.{sym, ap, ◌∙◌}
 use native.Mathlib.Omega.{arith}
-use Rattle.laws.proofs.Handed.{handed}
+use Rattle.laws.proofs.Handed.{handed, handed_or}
+use Prim.Native.Nat.{◌+◌}
+use Rattle.refusals.specs.declared.Refusal.TheVariants.{NoDurationAt, NoIssueAt}
 use Rattle.header.proofs.Stages.{no_start, no_origin, no_event, at_13}
 use Rattle.header_fields.specs.Says.{told}
-use Rattle.header_reading.proofs.Fronts.{list_stops, list_ends, times_stop, times_end, front_inside}
+use Rattle.header_reading.proofs.Fronts.{list_stops, list_ends, no_minutes, no_moment, times_end, front_inside}
 use Rattle.header_reading.proofs.front_of.Goals as goal
 
 pub returns-then-not-start_at : goal.returns-then-not-start_at
@@ -39,32 +41,70 @@ returns-in_err-count c =
     let seven = sym c.event_at.ensures.says ∙ c.if-not-event_at.false in
     rw (handed c.from_residual.result _ c.from_residual.ensures.1) (list_stops c.args.text.now c.places_at.new.codes five six seven _ c.in_err-count.ensures)
 
-pub times_at-requires : goal.times_at-requires
-times_at-requires c =
-    let five = sym c.start_at.ensures.says ∙ c.if-not-start_at.false in
-    let six = sym c.origin_at.ensures.says ∙ c.if-not-origin_at.false in
-    let seven = sym c.event_at.ensures.says ∙ c.if-not-event_at.false in
-    (list_ends c.args.text.now c.places_at.new.codes five six seven c.in_ok-count.count c.in_ok-count.at c.in_ok-count.ensures).inside
-
 pub returns-in_err-minutes : goal.returns-in_err-minutes
 returns-in_err-minutes c =
     let five = sym c.start_at.ensures.says ∙ c.if-not-start_at.false in
     let six = sym c.origin_at.ensures.says ∙ c.if-not-origin_at.false in
     let seven = sym c.event_at.ensures.says ∙ c.if-not-event_at.false in
-    rw (handed c.from_residual-in_err-minutes.result _ c.from_residual-in_err-minutes.ensures.1)
-    (times_stop c.args.text.now c.places_at.new.codes five six seven c.in_ok-count.count c.in_ok-count.at c.in_ok-count.ensures _ c.in_err-minutes.ensures)
+    let t = c.args.text.now in
+    let codes = c.places_at.new.codes in
+    let k = c.in_ok-count in
+    let e = c.in_err-minutes.ensures in
+    let said = rw e.ok_part at c.minutes_at.ensures.says in
+    rw (handed_or c.from_residual-in_err-minutes.result _ (NoDurationAt k.at) c.from_residual-in_err-minutes.ensures.1 e.value e.ok_part)
+    (no_minutes t codes five six seven k.count k.at k.ensures said)
+
+pub overflow_add-at : goal.overflow_add-at
+overflow_add-at c =
+    let five = sym c.start_at.ensures.says ∙ c.if-not-start_at.false in
+    let six = sym c.origin_at.ensures.says ∙ c.if-not-origin_at.false in
+    let seven = sym c.event_at.ensures.says ∙ c.if-not-event_at.false in
+    let k = c.in_ok-count in
+    omega (arith, (list_ends c.args.text.now c.places_at.new.codes five six seven k.count k.at k.ensures).inside)
+
+pub overflow_add-at-2 : goal.overflow_add-at-2
+overflow_add-at-2 c =
+    let five = sym c.start_at.ensures.says ∙ c.if-not-start_at.false in
+    let six = sym c.origin_at.ensures.says ∙ c.if-not-origin_at.false in
+    let seven = sym c.event_at.ensures.says ∙ c.if-not-event_at.false in
+    let k = c.in_ok-count in
+    omega (arith, (list_ends c.args.text.now c.places_at.new.codes five six seven k.count k.at k.ensures).inside)
+
+pub returns-in_err-issue : goal.returns-in_err-issue
+returns-in_err-issue c =
+    let five = sym c.start_at.ensures.says ∙ c.if-not-start_at.false in
+    let six = sym c.origin_at.ensures.says ∙ c.if-not-origin_at.false in
+    let seven = sym c.event_at.ensures.says ∙ c.if-not-event_at.false in
+    let t = c.args.text.now in
+    let codes = c.places_at.new.codes in
+    let k = c.in_ok-count in
+    let nine = rw c.in_ok-minutes.ensures.ok_part at c.minutes_at.ensures.says in
+    let e = c.in_err-issue.ensures in
+    let ten = rw e.ok_part at c.issue_at.ensures.says in
+    rw (handed_or c.from_residual-in_err-issue.result _ (NoIssueAt (k.at + 5)) c.from_residual-in_err-issue.ensures.1 e.value e.ok_part)
+    (no_moment t codes five six seven k.count k.at k.ensures _ nine ten)
 
 pub overflow_add-result : goal.overflow_add-result
 overflow_add-result c =
     let five = sym c.start_at.ensures.says ∙ c.if-not-start_at.false in
     let six = sym c.origin_at.ensures.says ∙ c.if-not-origin_at.false in
     let seven = sym c.event_at.ensures.says ∙ c.if-not-event_at.false in
-    let read = times_end c.args.text.now c.places_at.new.codes five six seven c.in_ok-count.count c.in_ok-count.at c.in_ok-count.ensures _ _ c.in_ok-minutes.ensures in
-    omega (arith, front_inside c.args.text.now c.places_at.new.codes _ read)
+    let t = c.args.text.now in
+    let codes = c.places_at.new.codes in
+    let k = c.in_ok-count in
+    let nine = rw c.in_ok-minutes.ensures.ok_part at c.minutes_at.ensures.says in
+    let ten = rw c.in_ok-issue.ensures.ok_part at c.issue_at.ensures.says in
+    let read = times_end t codes five six seven k.count k.at k.ensures _ nine _ _ _ ten in
+    omega (arith, front_inside t codes _ read)
 
 pub returns : goal.returns
 returns c =
     let five = sym c.start_at.ensures.says ∙ c.if-not-start_at.false in
     let six = sym c.origin_at.ensures.says ∙ c.if-not-origin_at.false in
     let seven = sym c.event_at.ensures.says ∙ c.if-not-event_at.false in
-    times_end c.args.text.now c.places_at.new.codes five six seven c.in_ok-count.count c.in_ok-count.at c.in_ok-count.ensures _ _ c.in_ok-minutes.ensures
+    let t = c.args.text.now in
+    let codes = c.places_at.new.codes in
+    let k = c.in_ok-count in
+    let nine = rw c.in_ok-minutes.ensures.ok_part at c.minutes_at.ensures.says in
+    let ten = rw c.in_ok-issue.ensures.ok_part at c.issue_at.ensures.says in
+    times_end t codes five six seven k.count k.at k.ensures _ nine _ _ _ ten

@@ -12,13 +12,13 @@ use Rattle.report.proofs.alert_report.Goals as goal
 pub returns-in_err-times : goal.returns-in_err-times
 returns-in_err-times c =
     let a = c.args in
-    untimely a.at a.f c.requires.1 (hits_of a.client (alert_in a.f) (subs form a.book.now)) a.out.now
+    untimely a.at a.f c.requires (hits_of a.client (alert_in a.f) (subs form a.book.words.now)) a.out.now
     c.in_err-times.field-0.0 c.from_residual.result (sym c.times_of.ensures.says ∙ ap said c.in_err-times.was)
     (handed_on c.in_err-times.field-0.0 c.from_residual.result c.from_residual.ensures refl)
 
 pub returns : goal.returns
 returns c =
     let a = c.args in
-    timely a.at a.f c.requires.1 (hits_of a.client (alert_in a.f) (subs form a.book.now)) a.out.now
+    timely a.at a.f c.requires (hits_of a.client (alert_in a.f) (subs form a.book.words.now)) a.out.now
     c.in_ok-times.times c.timed_report.result _
     (sym c.times_of.ensures.says ∙ ap said c.in_ok-times.was) c.timed_report.ensures

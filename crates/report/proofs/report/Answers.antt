@@ -17,7 +17,7 @@ returns-then-bad_client c =
 
 pub alert_report-requires : goal.alert_report-requires
 alert_report-requires c =
-    ((sym c.is_good.ensures.says ∙ c.if-not-is_good.false), readable c.args.header.now c.read.result c.read.ensures c.in_ok-fields.fields c.in_ok-fields.was)
+    (readable c.args.header.now c.read.result c.read.ensures c.in_ok-fields.fields c.in_ok-fields.was)
 
 pub returns-in_err-fields : goal.returns-in_err-fields
 returns-in_err-fields c =

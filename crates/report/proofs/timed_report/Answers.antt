@@ -21,27 +21,27 @@ same_hits : (h g : List Sub) (out : List ℕ) (r : Result ℕ Refusal) (left : L
 same_hits h g out r left e l = subst (λ (s : List Sub). ListsHits s out r left) e l
 
 pub slice_bounds-pack_places-end : goal.slice_bounds-pack_places-end
-slice_bounds-pack_places-end c = sym (length-take-le _ _ c.requires.1.few)
+slice_bounds-pack_places-end c = sym (length-take-le _ _ c.requires.few)
 
 pub slice_bounds-places-end-2 : goal.slice_bounds-places-end-2
 slice_bounds-places-end-2 c =
-    let n = packed_long c.args.f c.requires.1.few _ c.pack_places.ensures.lent in
+    let n = packed_long c.args.f c.requires.few _ c.pack_places.ensures.lent in
     rw length-append (omega arith)
 
 pub slice_bounds-list_hits-end : goal.slice_bounds-list_hits-end
 slice_bounds-list_hits-end c =
     let f = c.args.f in
-    let few = c.requires.1.few in
+    let few = c.requires.few in
     let p = c.pack_places.ensures.lent in
     sym (ap length (packed_front f few _ p) ∙ packed_long f few _ p)
 
 pub returns-in_err-hits : goal.returns-in_err-hits
 returns-in_err-hits c =
     let a = c.args in
-    let hits = hits_of a.client (alert_in a.f) (subs form a.book.now) in
+    let hits = hits_of a.client (alert_in a.f) (subs form a.book.words.now) in
     let kind = c.listed_class_of-kind in
     let p = c.pack_places.ensures.lent in
-    let q = hits_are a.f c.requires.1.few _ p a.client _ a.book.now c.requires.0 c.requires.1.codes kind.ensures in
+    let q = hits_are a.f c.requires.few _ p a.client _ a.book.words.now a.book.keeps c.requires.codes kind.ensures in
     let l = same_hits _ _ a.out.now _ _ q c.list_hits.ensures in
     short a.times (alert_in a.f) hits a.out.now c.in_err-hits.field-0.0 c.list_hits.result _ c.from_residual.result l c.in_err-hits.was
     (handed_on c.in_err-hits.field-0.0 c.from_residual.result c.from_residual.ensures refl)
@@ -49,11 +49,11 @@ returns-in_err-hits c =
 pub returns : goal.returns
 returns c =
     let a = c.args in
-    let hits = hits_of a.client (alert_in a.f) (subs form a.book.now) in
+    let hits = hits_of a.client (alert_in a.f) (subs form a.book.words.now) in
     let kind = c.listed_class_of-kind in
     let k : kind.result ≡ listed_class_of a.f.event = kind.ensures in
     let p = c.pack_places.ensures.lent in
-    let q = hits_are a.f c.requires.1.few _ p a.client _ a.book.now c.requires.0 c.requires.1.codes k in
+    let q = hits_are a.f c.requires.few _ p a.client _ a.book.words.now a.book.keeps c.requires.codes k in
     let l = same_hits _ _ a.out.now _ _ q c.list_hits.ensures in
     listed a.times (alert_in a.f) hits a.out.now _ _ c.in_ok-hits.hits _ l c.in_ok-hits.was
     (λ i. Ok record { times = a.times; event = a.f.event; listed = (k i).listed; class = (k i).class; hits = c.in_ok-hits.hits })
