@@ -165,7 +165,8 @@ module _ {A : Type 0} (k : Kind A) (g : Clean k) (short : k.width ≤ 300) (t : 
       go None true e = clash cc
       go None false e = refl
 
-  pub read_says : {T : Type 0} (f : T → A) (of : List ℕ → Option T → Type 0) → ((o : Option T) → of (take w s) o → option_map f o ≡ form_of (whole k) (take w s))
+  pub read_says : {T : Type 0} (f : T → A) (of : List ℕ → Option T → Type 0)
+      → ((o : Option T) → of (take w s) o → option_map f o ≡ form_of (whole k) (take w s))
       → (r : Option (T × ℕ)) → FixedLine of t at w r → said_as (with_index f) (ok_or r Malformed) ≡ next_of (whole k) t at
   read_says {T} f of h r (no_end n e) = ap (λ (s : Option (T × ℕ)). said_as (with_index f) (ok_or s Malformed)) e ∙ not_there n
   read_says {T} f of h r (ends n o p e) = ap (λ (s : Option (T × ℕ)). said_as (with_index f) (ok_or s Malformed)) e ∙ read_form f o (h o p) ∙ there n

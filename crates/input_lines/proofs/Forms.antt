@@ -52,7 +52,8 @@ module _ (l : List ℕ) (n : length l ≡ 17) where
   pub now_4 : number_at l 15 2 ≡ None → None ≡ form_of now_line l
   now_4 e = form_no now_line l (now_parts ∙ simp (number_none l 15 2 (omega arith) (omega arith) e, and-false))
 
-  pub now_5 : (y d h m : ℕ) → tagged_of (ascii "now=") 4 l 0 ≡ Some y → tagged_of space 3 l 8 ≡ Some d → tagged_of space 2 l 12 ≡ Some h → number_at l 15 2 ≡ Some m
+  pub now_5 : (y d h m : ℕ) → tagged_of (ascii "now=") 4 l 0 ≡ Some y → tagged_of space 3 l 8 ≡ Some d
+      → tagged_of space 2 l 12 ≡ Some h → number_at l 15 2 ≡ Some m
       → ◌≡◌ {A = Option (ℕ × (ℕ × (ℕ × ℕ)))} (Some (y, (d, (h, m)))) (form_of now_line l)
   unfolding form_of now_line
   now_5 y d h m ey ed eh em =

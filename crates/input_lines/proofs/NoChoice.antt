@@ -35,7 +35,8 @@ now_line_no_choice {r = r} {q = q} a b = said_as_one (with_index now_parts) now_
 pub client_line_no_choice : {input : List ℕ} {at : ℕ} {r q : Result (ℕ × ℕ) Refusal} → ClientLinePromise input at r → ClientLinePromise input at q → r ≡ q
 client_line_no_choice {r = r} {q = q} a b = said_one r q (a.says ∙ sym b.says)
 
-pub header_line_no_choice : {input : List ℕ} {at : ℕ} {r q : Result (HeaderLine × ℕ) Refusal} → HeaderLinePromise input at r → HeaderLinePromise input at q → r ≡ q
+pub header_line_no_choice : {input : List ℕ} {at : ℕ} {r q : Result (HeaderLine × ℕ) Refusal}
+    → HeaderLinePromise input at r → HeaderLinePromise input at q → r ≡ q
 header_line_no_choice {r = r} {q = q} a b = said_as_one header_parts header_back (λ a. refl) r q (a.says ∙ sym b.says)
 
 pub sub_line_no_choice : {input : List ℕ} {at : ℕ} {r q : Result (SubLine × ℕ) Refusal} → SubLinePromise input at r → SubLinePromise input at q → r ≡ q

@@ -21,7 +21,8 @@ use Rattle.page.specs.Input.{adds_line}
 use Rattle.page.specs.Steps.{flat, GatheredOf, booked}
 use Rattle.page.proofs.Gathering.{load_empty}
 
-module _ (t : List ℕ) (at : ℕ) (n : ℕ) (ended : Result (Unit {0}) Refusal) (its : List (List ℕ)) (is : GatheredOf t at (n, ended) its) (w : List ℕ) (new : w ≡ empty) where
+module _ (t : List ℕ) (at : ℕ) (n : ℕ) (ended : Result (Unit {0}) Refusal) (its : List (List ℕ)) (is : GatheredOf t at (n, ended) its)
+    (w : List ℕ) (new : w ≡ empty) where
   abbrev words : List ℕ
   words = flat (take n its)
 

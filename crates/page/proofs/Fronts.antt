@@ -32,7 +32,8 @@ abbrev after_now : ℕ × (ℕ × (ℕ × ℕ)) → List (List ℕ) → Said Sho
 after_now clock lines = one_line client_line lines (after_client clock)
 
 -- a refusal of the next line is 23
-pub bad : {A B : Type 0} (f : LineForm A) (t : List ℕ) (at : ℕ) (e : Refusal) → says e ≡ next_of f t at → (next_of f t at ≡ refused 23) × (◌≡◌ {A = Said B} (says e) (refused 23))
+pub bad : {A B : Type 0} (f : LineForm A) (t : List ℕ) (at : ℕ) (e : Refusal) → says e ≡ next_of f t at
+    → (next_of f t at ≡ refused 23) × (◌≡◌ {A = Said B} (says e) (refused 23))
 bad {A} {B} f t at e p = go (next_line f t at)
   where
     go : NextLine f t at → (next_of f t at ≡ refused 23) × (◌≡◌ {A = Said B} (says e) (refused 23))

@@ -118,8 +118,9 @@ module _ (t : List ℕ) (at : ℕ) (its : List (List ℕ)) (count i : ℕ) (g : 
   pub went : (p c v j : ℕ) → i < length t → count < 4097 → next_of sub_line t i ≡ granted ((p, (c, v)), j)
       → Gathering t at (set its count (p ∷ c ∷ v ∷ [])) (count + 1) j
   went p c v j h l e =
-      let w : flat (take (count + 1) (set its count (p ∷ c ∷ v ∷ []))) ≡ sofar ++ (p ∷ c ∷ v ∷ []) = flat_more its count (p ∷ c ∷ v ∷ []) (omega (arith, g.len)) in
-      let x : items (flat (take (count + 1) (set its count (p ∷ c ∷ v ∷ [])))) ≡ items sofar ++ (sub p c v ∷ []) = ap items w ∙ items_more sofar count p c v g.taken in
+      let its' : List (List ℕ) = set its count (p ∷ c ∷ v ∷ []) in
+      let w : flat (take (count + 1) its') ≡ sofar ++ (p ∷ c ∷ v ∷ []) = flat_more its count (p ∷ c ∷ v ∷ []) (omega (arith, g.len)) in
+      let x : items (flat (take (count + 1) its')) ≡ items sofar ++ (sub p c v ∷ []) = ap items w ∙ items_more sofar count p c v g.taken in
       record {
         inside = (took_in sub_line t i (p, (c, v)) j e).1;
         len = length-set its count (p ∷ c ∷ v ∷ []) ∙ g.len;

@@ -15,7 +15,8 @@ use Rattle.page.specs.Promise.{PagePromise}
 pub as_print : {input out left : List ℕ} {r : Result ℕ Refusal} → PagePromise input out r left → PrintPromise (page_of input) out r left
 as_print p = record { says = p.says; space = p.lent }
 
-pub page_no_choice : {input out left rest : List ℕ} {r q : Result ℕ Refusal} → PagePromise input out r left → PagePromise input out q rest → (r ≡ q) × (left ≡ rest)
+pub page_no_choice : {input out left rest : List ℕ} {r q : Result ℕ Refusal}
+    → PagePromise input out r left → PagePromise input out q rest → (r ≡ q) × (left ≡ rest)
 page_no_choice p q = print_no_choice (as_print p) (as_print q)
 
 pub page_refusal_writes_nothing : {input out left : List ℕ} {r : Result ℕ Refusal} → PagePromise input out r left → is_refusal (said r) ≡ true → left ≡ out

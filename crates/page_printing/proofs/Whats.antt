@@ -18,7 +18,8 @@ use Rattle.page_printing.specs.Steps.{Puts, what_lines}
 use Rattle.page_printing.proofs.Writing.{length_line, line_as, puts_as, line_next, text_room, line_then}
 use Rattle.page_printing.proofs.Pages.{what_length}
 
-module _ (d : List ℕ) (at : ℕ) (event : List ℕ) (listed : Bool) (class : ℕ) (phase : Phase) (h : at + length (ended (what_lines event listed class phase)) ≤ length d) where
+module _ (d : List ℕ) (at : ℕ) (event : List ℕ) (listed : Bool) (class : ℕ) (phase : Phase)
+    (h : at + length (ended (what_lines event listed class phase)) ≤ length d) where
   abbrev whole : List ℕ
   whole = pasted d at (ended (what_lines event listed class phase))
 
@@ -35,12 +36,15 @@ module _ (d : List ℕ) (at : ℕ) (event : List ℕ) (listed : Bool) (class : �
     pub listed_room : e + length (text_line (ascii "listed=") word) ≤ length d1
     listed_room = rw w (text_room "listed=" (yes_no listed) _ rest)
 
-    module _ {d2 d3 : List ℕ} {f : ℕ} {b : Bool} (q : Puts d1 e (text_line (ascii "listed=") word) d2 f) (r : PutPromise d2 f (text_line (ascii "class=") (dig 1 class)) b d3) where
+    module _ {d2 d3 : List ℕ} {f : ℕ} {b : Bool} (q : Puts d1 e (text_line (ascii "listed=") word) d2 f)
+        (r : PutPromise d2 f (text_line (ascii "class=") (dig 1 class)) b d3) where
       listed_put : Puts d1 e (ended (line "listed=" (yes_no listed) ∷ [])) d2 f
       listed_put = puts_as q (ap (text_line (ascii "listed=")) w ∙ line_as "listed=" (yes_no listed))
 
       last : Todo d whole d3 (f + 8) (ended (line "state=" (phase_text phase) ∷ []))
-      last = line_then "class=" (dig 1 class) (line "state=" (phase_text phase) ∷ []) (line_next (line "listed=" (yes_no listed)) _ rest listed_put) r (f + 8) refl
+      last =
+          line_then "class=" (dig 1 class) (line "state=" (phase_text phase) ∷ []) (line_next (line "listed=" (yes_no listed)) _ rest listed_put) r
+          (f + 8) refl
 
       pub class_end : f + 8 ≤ length d
       class_end = omega (arith, last.room, last.len)
@@ -49,9 +53,11 @@ module _ (d : List ℕ) (at : ℕ) (event : List ℕ) (listed : Bool) (class : �
         pub phase_room : f + 8 + length (text_line (ascii "state=") state) ≤ length d3
         phase_room = rw s (text_room "state=" (phase_text phase) _ last)
 
-        pub what_done : {d4 : List ℕ} {g : ℕ} → Puts d3 (f + 8) (text_line (ascii "state=") state) d4 g → Puts d at (ended (what_lines event listed class phase)) d4 g
+        pub what_done : {d4 : List ℕ} {g : ℕ} → Puts d3 (f + 8) (text_line (ascii "state=") state) d4 g
+            → Puts d at (ended (what_lines event listed class phase)) d4 g
         what_done x =
-            let z : Puts d3 (f + 8) (ended (line "state=" (phase_text phase) ∷ [])) _ _ = puts_as x (ap (text_line (ascii "state=")) s ∙ line_as "state=" (phase_text phase)) in
+            let z : Puts d3 (f + 8) (ended (line "state=" (phase_text phase) ∷ [])) _ _ =
+            puts_as x (ap (text_line (ascii "state=")) s ∙ line_as "state=" (phase_text phase)) in
             record {
               space = z.space ∙ last.same;
               next =

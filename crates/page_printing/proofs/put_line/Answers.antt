@@ -4,14 +4,6 @@ use Rattle.codec.proofs.Puts.{put_fits}
 use Rattle.page_lines.proofs.Room.{line_length}
 use Rattle.page_printing.proofs.put_line.Goals as goal
 
-pub overflow_add-result-2 : goal.overflow_add-result-2
-overflow_add-result-2 c =
-    omega (arith, c.requires, line_length c.args.word.now c.args.says.now)
-
-pub overflow_add-result-3 : goal.overflow_add-result-3
-overflow_add-result-3 c =
-    omega (arith, c.requires, line_length c.args.word.now c.args.says.now)
-
 pub returns : goal.returns
 returns c =
     record {

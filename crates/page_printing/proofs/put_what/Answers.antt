@@ -14,7 +14,10 @@ put_line-f-requires c =
 pub overflow_add-f : goal.overflow_add-f
 overflow_add-f c =
     let a = c.args in
-    omega (arith, class_end _ _ a.event.now a.listed a.class a.phase c.requires c.put_line-e.ensures _ c.listed_word.ensures c.put_line-f.ensures c.put_number.ensures)
+    omega (
+      arith,
+      class_end _ _ a.event.now a.listed a.class a.phase c.requires c.put_line-e.ensures _ c.listed_word.ensures c.put_line-f.ensures c.put_number.ensures,
+    )
 
 pub put_line-requires : goal.put_line-requires
 put_line-requires c =
