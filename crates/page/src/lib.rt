@@ -45,7 +45,8 @@ fn three_lines(input: &[u8]) -> Result<Three, Refusal>
 }
 
 // The items of the `sub=` lines from index at on, up to the first that is malformed: how many, and whether that stands behind them.
-// One item more than a book can hold is enough: the load refuses one of them, and what follows has no say.
+// One item more than a book can hold is enough: the load refuses one of them, and what follows has no say. So an array holds them, and
+// no heap is needed.
 fn gather(input: &[u8], at: usize, items: &mut [[u32; 3]; 4097]) -> (usize, Result<(), Refusal>)
     requires { at ≤ length input.now }
     ensures { GatheredOf input.now at result items.new }
@@ -76,7 +77,8 @@ fn add_subs(input: &[u8], at: usize, book: &mut [u32]) -> Result<(), Refusal>
     ended
 }
 
-// The client, and the report on the header for it, with words lent for the hits of a full book.
+// The client, and the report on the header for it, with words lent for the hits of a full book: an array and their number, since the
+// library has no heap.
 fn reported(input: &[u8], hits: &mut [u32]) -> Result<(u32, Summary), Refusal>
     requires { length hits.old ≡ hit_room }
     ensures { Reported input.now result hits.new }
