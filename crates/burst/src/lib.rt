@@ -117,7 +117,8 @@ fn by_length(a: &[u8], b: &[u8], c: &[u8], n: usize, out: &mut [u8]) -> Result<u
     agree(c, a, b, n, out)
 }
 
-// The vote on three stripped bursts, none of whose received ones is too long.
+// The vote on three stripped bursts, none of whose received ones is too long. They stay three names here and below: `by_length` tells them
+// apart by their lengths, and an array of them would have to be asked by number.
 fn decide(a: &[u8], b: &[u8], c: &[u8], out: &mut [u8]) -> Result<usize, Refusal>
     ensures { Decides a.now b.now c.now out.old result out.new }
 {

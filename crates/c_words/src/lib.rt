@@ -154,6 +154,7 @@ pub fn write_words(fields: &[u32], out: &mut [u8]) -> u64
 
 // ---- the report
 
+// The numbers are C's, so they stand here and not in an `impl From` of `clock`.
 fn phase_word(s: Phase) -> u32
     ensures { result ≡ phase_word s }
 {

@@ -38,7 +38,7 @@ pub fn digits_at(text: &[u8], at: usize, width: usize) -> Option<u32>
 }
 
 // Puts one byte at index at and says yes, or says no where there is no room for it and writes nothing. A yes or no is enough, here and below:
-// every caller has asked for room.
+// every caller has asked for room. `out` and `at` stay two parameters: the promise is of the whole lent space and an index that does not move.
 pub fn put_byte(out: &mut [u8], at: usize, b: u8) -> bool
     ensures { PutPromise out.old at (b ∷ []) result out.new }
 {

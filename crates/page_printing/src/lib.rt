@@ -101,7 +101,8 @@ pub fn print_refusal(out: &mut [u8], number: u32) -> Result<usize, Refusal>
     Ok(9 + w)
 }
 
-// Prints a report's page to the front of out, and says its length; or 13 where it does not fit, and nothing is written. Hits are pairs of place and wish.
+// Prints a report's page to the front of out, and says its length; or 13 where it does not fit, and nothing is written. Hits are pairs of
+// place and wish. `listed` stands beside the class, since a code that is not listed has a class too.
 pub fn print_page(
     out: &mut [u8],
     client: u32,

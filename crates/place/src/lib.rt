@@ -89,7 +89,7 @@ pub fn pack_places(places: &mut [u32])
     }
 }
 
-// Whether two packed places match by state, county and part.
+// Whether two packed places match by state, county and part. Not one with `by_parts`: where the parts are divided off is all that both do.
 fn packed_by_parts(watched: u32, sent: u32) -> bool
     ensures { result ≡ packed_by_parts watched sent }
 {
@@ -110,7 +110,8 @@ fn packed_match(watched: u32, sent: u32) -> bool
     packed_by_parts(watched, sent)
 }
 
-// Whether a packed place matches at least one of some packed places. One look at each, up to the first that matches.
+// Whether a packed place matches at least one of some packed places. One look at each, up to the first that matches. Its own test is all that
+// tells it from `matches_some`.
 pub fn packed_match_some(watched: u32, sent: &[u32]) -> bool
     ensures { PackedMatchSomePromise watched sent.now result }
 {

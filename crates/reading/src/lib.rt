@@ -7,7 +7,8 @@ ghost use Rattle.reading.specs.Reading.{Within, Holds};
 use std::io;
 use std::io::Read;
 
-/// Reads until the input ends or the space is full, and says how many bytes were read. A read that fails is no end of the input: its error is handed on.
+/// Reads until the input ends or the space is full, and says how many bytes were read. A read that fails is no end of the input: its error is
+/// handed on. A `while`, since no call of the library fills lent space and says how far it came.
 pub fn read_input<R: Read>(input: &mut R, space: &mut [u8]) -> io::Result<usize>
     ensures within { Within (length space.new) result }
     ensures holds { Holds (R.remaining input.old) space.new result }

@@ -1,5 +1,5 @@
 // The C library's archive: the calls of crate same, exported under their names. Each hands its arguments on, and promises what same's
-// call does. include/same.h says each for C.
+// call does: an exported name stands in the archive's own crate, so each has its twin there. include/same.h says each for C.
 #![tactic(auto)]
 
 ghost use Rattle.c_words.specs.Promise.{ReadWordsPromise, WriteWordsPromise, ReportWordsPromise};
