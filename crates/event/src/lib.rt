@@ -72,7 +72,8 @@ static EVENTS: [([u8; 3], u32); 61] = [
     (*b"TXP", 0),
 ];
 
-// What is known of a code: whether it is listed, and its class. No Option, since a code that is not listed has a class too.
+// What is known of a code: whether it is listed, and its class. No Option, since a code that is not listed has a class too; and the class is a
+// number, 0 to 6, as the paper and the C interface have it.
 #[derive(Clone, Copy)]
 pub struct ListedClass {
     pub listed: bool,
