@@ -107,6 +107,7 @@ fn sub_of(line: &[u8]) -> Option<SubLine>
 
 // The n bytes from index at on, read by `of`, where their byte 10 stands right behind them; and the index after it. A line of fixed
 // width has its byte 10 in one place, and none before it: its form allows none. So each byte is looked at once.
+// It lends `of` a slice, since a bound `Fn` that names a const parameter gets no proof: so the three ask for their length.
 fn fixed_line<T, F: Fn(&[u8]) -> Option<T>>(
     input: &[u8],
     at: usize,

@@ -1,8 +1,6 @@
 // Prints the page of each input 001 to 118, behind a line `-- NNN`.
 #![tactic(auto)]
 
-ghost use Rattle.std.specs.Prelude.{IfOk, ◌≤◌, length};
-
 use std::io::{Read, Write};
 use std::rt::Files;
 use std::{fs, io};
@@ -18,24 +16,17 @@ fn print_page<R: Read, W: Write>(file: &mut R, out: &mut W) -> io::Result<()> {
     }
 }
 
-// The page of the file with this name. An input that is missing must not pass for an empty one.
-fn print_file<R: Files + Alloc, W: Write>(rt: &R, out: &mut W, name: &[u8]) -> io::Result<()> {
-    let file = match str::from_utf8(name) {
-        Ok(path) => fs::open(rt, path).ok(),
-        Err(_) => None,
-    };
-    match file {
-        Some(mut file) => print_page(&mut file, out),
-        None => out.write_all(b"no such input\n"),
-    }
-}
-
+// The page of input n. An input that is missing must not pass for an empty one.
 fn print_case<R: Files + Alloc, W: Write>(rt: &R, out: &mut W, n: u8) -> io::Result<()> {
     let name = [48 + n / 100, 48 + n / 10 % 10, 48 + n % 10];
-    out.write_all(b"-- ")?;
-    out.write_all(&name)?;
-    out.write_all(b"\n")?;
-    print_file(rt, out, &name)
+    writeln!(out, "-- {n:03}")?;
+    let file = str::from_utf8(&name)
+        .ok()
+        .and_then(|path| fs::open(rt, path).ok());
+    match file {
+        Some(mut file) => print_page(&mut file, out),
+        None => writeln!(out, "no such input"),
+    }
 }
 
 fn main(rt: HostRuntime) -> io::Result<()> {

@@ -1,5 +1,5 @@
 -- The page of any input fits the space that is lent for it, so it is printed; and the bytes that are written are the page.
-use Rattle.std.proofs.Common.{ℕ, ◌≡◌, ◌+◌, ◌≤◌, List, length, take, drop, refl, ap, sym, subst, ◌∙◌, arith}
+use Rattle.std.proofs.Common.{ℕ, ◌≡◌, ◌+◌, ◌≤◌, List, length, take, drop, ap, sym, subst, ◌∙◌, arith}
 use Rattle.std.proofs.Math.ListN.{length-replicate}
 use Rattle.std.proofs.Math.Seq.{length-take-le, take-append_seam}
 use Rattle.std.specs.Prelude.{Result, Ok, OnOk, is_ok}
