@@ -118,7 +118,8 @@ impl Says for Hit {
     }
 }
 
-// Puts a line of a word and what it says at index at and says yes, or says no where there is no room and writes nothing.
+// Puts a line of a word and what it says at index at and says yes, or says no where there is no room and writes nothing. A yes or no is
+// enough: every caller has asked for room.
 fn put_line<S: Says>(out: &mut [u8], at: usize, word: &[u8], says: &S) -> bool
     ensures { PutPromise out.old at (text_line word.now (S.text_of says.now)) result out.new }
 {
