@@ -37,12 +37,12 @@ all_push p (y ∷ l) x = ap (λ (b : Bool). p y && b) (all_push p l x) ∙ and_b
 
 -- the unused words
 pub zeros : (w : List ℕ) (n : ℕ) → length w ≡ 8293 → n ≤ 4096
-    → list_all (λ x. eqb x 0) (take (8293 - (101 + 2 * n)) (drop (101 + 2 * n) w)) ≡ unused_zero w n
+    → list_all (λ x. eqb x 0) (take (length w - (101 + 2 * n)) (drop (101 + 2 * n) w)) ≡ unused_zero w n
 unfolding unused_zero
 zeros w n h m =
     let u : List ℕ = drop (101 + 2 * n) w in
     let e : length u ≡ 8192 - 2 * n = omega (arith, length-drop (101 + 2 * n) w) in
-    let a : 8293 - (101 + 2 * n) ≡ length u = omega arith in
+    let a : length w - (101 + 2 * n) ≡ length u = omega arith in
     ap (λ (k : ℕ). list_all (λ x. eqb x 0) (take k u)) a
     ∙ ap (list_all (λ x. eqb x 0)) (take-length u)
     ∙ all_of (λ x. eqb x 0) u
