@@ -13,7 +13,7 @@ use Rattle.refusals.specs.declared.Refusal.TheVariants.{LongText, NoSenderAt, Mo
 use Rattle.codec.specs.Codec.{got, fits, is, field}
 use Rattle.codec.proofs.Fits.{fits_long}
 use Rattle.codec.proofs.Stages.{At, last, last_stop, field_no, field_yes}
-use Rattle.header.specs.Header.{Front as Opened, front as table, dash, sender, header, Alert, alert_of}
+use Rattle.header.specs.Header.{Front, front, dash, sender, header, Alert, alert_of}
 use Rattle.header.specs.Reading.{read_says}
 use Rattle.header.specs.Answers.{counted, alert_in, fields_for}
 use Rattle.header.specs.Promise.{ReadPromise}
@@ -22,13 +22,13 @@ use Rattle.header.proofs.Round.{front_law, front_sized}
 use Rattle.header.proofs.Says.{over, stops, beyond, ends, no_front, before_sender, counted_take, filled}
 use Rattle.header_fields.proofs.Told.{stopped}
 use Rattle.header_reading.specs.Steps.{Filled, FrontOf, before}
-use Rattle.header_reading.specs.declared.Front.{Front}
+use Rattle.header_reading.specs.declared.Opening.{Opening}
 
 stops_with : (t : List ℕ) (e : Refusal) (n i : ℕ) → says {A = Alert} e ≡ refused_at n i → read_says t ≡ refused_at n i → ReadPromise t (Err e)
 stops_with t e n i h r = record { says = h ∙ sym r; fields = sym (ap fields_for r) }
 
 -- what stands before the sender, of fields
-abbrev fronted : Fields → Opened
+abbrev fronted : Fields → Front
 fronted f = (tt, (f.origin, (f.event, (take f.count f.places, (f.duration, (f.day, (f.hour, f.minute)))))))
 
 -- the fields, of which the places stand in words that are zeros behind them
@@ -54,11 +54,11 @@ too_long t h = stops_with t LongText 4 252 refl (over t h)
 module _ (t codes : List ℕ) (short : length t ≤ 252) where
   pub ended : (e : Refusal) → FrontOf t codes (Err e) → ReadPromise t (Err e)
   ended e p =
-      let s = stopped Alert (table.get t 0) e p in
+      let s = stopped Alert (front.get t 0) e p in
       stops_with t e s.its s.at s.says (stops t s.its s.at short (no_front t s.its s.at s.stops))
 
-  module _ (f : Front) (p : FrontOf t codes (Ok f)) where
-    abbrev all : Opened
+  module _ (f : Opening) (p : FrontOf t codes (Ok f)) where
+    abbrev all : Front
     all = before t codes f
 
     abbrev j : ℕ

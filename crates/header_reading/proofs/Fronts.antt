@@ -10,14 +10,14 @@ use Rattle.refusals.specs.declared.Refusal.{Refusal}
 use Rattle.refusals.specs.declared.Refusal.TheVariants.{NoDurationAt, NoIssueAt}
 use Rattle.codec.specs.Codec.{got, no, fits, is, field}
 use Rattle.codec.proofs.Stages.{At, last, last_stop, left_inside}
-use Rattle.header.specs.Header.{dash, start, origin, event, duration, issue, Front as Opened, front as table}
+use Rattle.header.specs.Header.{dash, start, origin, event, duration, issue, Front, front}
 use Rattle.header.specs.Parts.{places, duration_and_issue}
 use Rattle.header.proofs.Round.{front_law}
 use Rattle.header.proofs.Stages.{at_13, no_list, at_times, no_duration, no_issue, both_times}
 use Rattle.header_fields.specs.Says.{told}
 use Rattle.header_fields.proofs.Told.{stopped}
 use Rattle.header_reading.specs.Steps.{PlacesAt, FrontOf}
-use Rattle.header_reading.specs.declared.Front.{Front}
+use Rattle.header_reading.specs.declared.Opening.{Opening}
 
 module _
     (t codes : List ℕ)
@@ -27,11 +27,11 @@ module _
   where
     pub list_stops : (e : Refusal) → PlacesAt t 13 codes (Err e) → FrontOf t codes (Err e)
     list_stops e p =
-        let s = stopped (Opened × ℕ) (places.get (drop 13 t) 13) e p in
+        let s = stopped (Front × ℕ) (places.get (drop 13 t) 13) e p in
         s.says ∙ ap told (sym (no_list t _ (at_13 t f5 f6 f7) s.its s.at s.stops))
 
     module _ (c j : ℕ) (p : PlacesAt t 13 codes (Ok (c, j))) where
-      pub list_ends : At t table 0 duration_and_issue j (λ b. (tt, (take 3 (drop 5 t), (take 3 (drop 9 t), (take c codes, b)))))
+      pub list_ends : At t front 0 duration_and_issue j (λ b. (tt, (take 3 (drop 5 t), (take 3 (drop 9 t), (take c codes, b)))))
       list_ends = at_times t _ (at_13 t f5 f6 f7) (take c codes) j (sym p.0)
 
       pub no_minutes : no 9 j ≡ (field 9 duration dash).get (drop j t) j → FrontOf t codes (Err (NoDurationAt j))
@@ -48,5 +48,5 @@ module _
             let both = both_times t j list_ends.inside m e d h n w in
             (sym (last list_ends (m, (d, (h, n))) (drop (j + 13) t) (j + 13) (sym (rw x at both))), p.1)
 
-pub front_inside : (t codes : List ℕ) (f : Front) → FrontOf t codes (Ok f) → f.at ≤ length t
-front_inside t codes f p = left_inside table front_law t 0 _ (drop f.at t) f.at (sym p.0) (omega arith)
+pub front_inside : (t codes : List ℕ) (f : Opening) → FrontOf t codes (Ok f) → f.at ≤ length t
+front_inside t codes f p = left_inside front front_law t 0 _ (drop f.at t) f.at (sym p.0) (omega arith)

@@ -3,10 +3,10 @@ use Rattle.std.specs.Prelude.{ℕ, ◌-◌, ◌≤◌, ◌≡◌, List, length, 
 use Rattle.refusals.specs.Refusals.{says}
 use Rattle.refusals.specs.declared.Refusal.{Refusal}
 use Rattle.codec.specs.Codec.{Codec, got}
-use Rattle.header.specs.Header.{front as table, Front as Opened}
+use Rattle.header.specs.Header.{front, Front}
 use Rattle.header.specs.Parts.{places}
 use Rattle.header_fields.specs.Says.{told}
-use Rattle.header_reading.specs.declared.Front.{Front}
+use Rattle.header_reading.specs.declared.Opening.{Opening}
 
 -- ---- a part of the table, read at an index: its value and the index behind it, or the refusal
 
@@ -31,9 +31,9 @@ PlacesAt text at codes (Err e) = StopsAs places text at e
 
 -- ---- everything before the sender
 
-abbrev pub before : List ℕ → List ℕ → Front → Opened
+abbrev pub before : List ℕ → List ℕ → Opening → Front
 before text codes f = (tt, (take 3 (drop 5 text), (take 3 (drop 9 text), (take f.count codes, (f.minutes, (f.day, (f.hour, f.minute)))))))
 
-abbrev pub FrontOf : List ℕ → List ℕ → Result Front Refusal → Type 0
-FrontOf text codes (Ok f) = Gets table text 0 (before text codes f) f.at × Filled codes f.count
-FrontOf text codes (Err e) = StopsAs table text 0 e
+abbrev pub FrontOf : List ℕ → List ℕ → Result Opening Refusal → Type 0
+FrontOf text codes (Ok f) = Gets front text 0 (before text codes f) f.at × Filled codes f.count
+FrontOf text codes (Err e) = StopsAs front text 0 e

@@ -10,7 +10,7 @@ use refusals::Refusal;
 
 // Everything before the sender, but for origin and event: how many places, the duration, the issue, and the index behind them.
 #[derive(Clone, Copy)]
-struct Front {
+struct Opening {
     count: usize,
     minutes: u32,
     day: u32,
@@ -40,7 +40,7 @@ fn places_at(text: &[u8], at: usize, codes: &mut [u32; 31]) -> Result<(usize, us
 }
 
 // Everything before the sender.
-fn front_of(text: &[u8], codes: &mut [u32; 31]) -> Result<Front, Refusal>
+fn front_of(text: &[u8], codes: &mut [u32; 31]) -> Result<Opening, Refusal>
     requires { codes.old ≡ replicate {A = ℕ} 31 0 }
     ensures { FrontOf text.now codes.new result }
 {
@@ -56,7 +56,7 @@ fn front_of(text: &[u8], codes: &mut [u32; 31]) -> Result<Front, Refusal>
     let (count, at) = places_at(text, 13, codes)?;
     let minutes = header_fields::minutes_at(text, at).ok_or(Refusal::NoDurationAt(at))?;
     let issue = header_fields::issue_at(text, at + 5).ok_or(Refusal::NoIssueAt(at + 5))?;
-    Ok(Front {
+    Ok(Opening {
         count,
         minutes,
         day: issue.day,
@@ -75,11 +75,11 @@ fn bytes_at<const N: usize>(text: &[u8], at: usize) -> [u8; N]
 }
 
 // The rest of a text whose front is read: the sender and its mark, and nothing behind them.
-fn signed(text: &[u8], places: [u32; 31], front: Front) -> Result<Fields, Refusal>
-    requires { (length text.now ≤ 252) × FrontOf text.now places (Ok front) }
+fn signed(text: &[u8], places: [u32; 31], opening: Opening) -> Result<Fields, Refusal>
+    requires { (length text.now ≤ 252) × FrontOf text.now places (Ok opening) }
     ensures { ReadPromise text.now result }
 {
-    let at = front.at;
+    let at = opening.at;
     if !header_fields::sender_at(text, at) {
         return Err(Refusal::NoSenderAt(at));
     }
@@ -88,11 +88,11 @@ fn signed(text: &[u8], places: [u32; 31], front: Front) -> Result<Fields, Refusa
     }
     Ok(Fields {
         places,
-        duration: front.minutes,
-        count: front.count,
-        day: front.day,
-        hour: front.hour,
-        minute: front.minute,
+        duration: opening.minutes,
+        count: opening.count,
+        day: opening.day,
+        hour: opening.hour,
+        minute: opening.minute,
         origin: bytes_at(text, 5),
         event: bytes_at(text, 9),
         sender: bytes_at(text, at),
