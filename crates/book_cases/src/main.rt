@@ -159,7 +159,7 @@ fn cases<W: Write>(out: &mut W, book: &mut Book, input: &[u8]) -> io::Result<()>
     Ok(())
 }
 
-// Reads an input until it ends or the space is full. Says how many bytes it brought.
+// Reads an input until it ends or the space is full. Says how many bytes it brought: a read brings as many as it likes, so they are counted.
 fn read_full<R: Read>(input: &mut R, space: &mut [u8]) -> io::Result<usize>
     ensures { IfOk result (λ n. n ≤ length space.new) }
 {
