@@ -159,7 +159,7 @@ fn cases<W: Write>(out: &mut W, book: &mut Book, input: &[u8]) -> io::Result<()>
     Ok(())
 }
 
-// The input's first 2,048 bytes are read, into space of a fixed size: no program here takes memory from a heap.
+// The input's first 2,048 bytes are read, into space of a fixed size, which is not taken from a heap.
 fn main(rt: HostRuntime) -> io::Result<()> {
     let mut book = [0u32; 8293];
     let mut input = [0u8; 2048];

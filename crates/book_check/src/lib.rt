@@ -18,7 +18,8 @@ struct Counted<'a> {
 }
 
 impl Counted<'_> {
-    // Whether the records are in range and rise. One pass, each word looked at once.
+    // Whether the records are in range and rise: each rank is above the one before it, and the first above 0, as every rank is. One pass,
+    // each word looked at once.
     fn records_rise(&self) -> bool
         ensures { result ≡ (records_right form self.now.book.now self.now.n && rising_rank form self.now.book.now self.now.n) }
     {

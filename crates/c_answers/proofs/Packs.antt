@@ -5,7 +5,8 @@ use mathlib.Core.Bool.{Bool, true, false, not}
 use native.Mathlib.Omega.{arith}
 use Rattle.laws.specs.Order.{Said, granted, refused, refused_at, next, choose, is_refusal}
 use Rattle.laws.proofs.Next.{next_next}
-use Rattle.c_answers.specs.Answer.{half, capped, in_halves, bare, number_in, size_or_index_in, number_of, size_or_index_of}
+use Rattle.refusals.specs.Refusals.{number_of}
+use Rattle.c_answers.specs.Answer.{half, capped, in_halves, bare, number_in, size_or_index_in, size_or_index_of}
 
 -- ---- made of a number and what is beside it
 

@@ -29,11 +29,6 @@ number_in r = r % half
 abbrev pub size_or_index_in : ℕ → ℕ
 size_or_index_in r = r / half
 
-abbrev pub number_of : {A : Type 0} → Said A → ℕ
-number_of (granted a) = 0
-number_of (refused n) = n
-number_of (refused_at n i) = n
-
 abbrev pub size_or_index_of : Said ℕ → ℕ
 size_or_index_of (granted v) = v
 size_or_index_of (refused n) = 0

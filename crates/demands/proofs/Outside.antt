@@ -21,7 +21,8 @@ use Rattle.c_words.specs.Says.{enough, fields_say, text_says, summary_says}
 use Rattle.same.specs.Says.{strip_says, good_says}
 use Rattle.laws.specs.Order.{Said, granted, refused, refused_at, is_refusal, in_order, next}
 use Rattle.laws.proofs.Order.{passes_rows, passes_next}
-use Rattle.c_answers.specs.Answer.{half, number_of}
+use Rattle.refusals.specs.Refusals.{number_of}
+use Rattle.c_answers.specs.Answer.{half}
 use Rattle.c_answers.proofs.Packs.{halves}
 use Rattle.c_words.proofs.NoChoice.{read_no_choice, write_no_choice, report_no_choice}
 use Rattle.c_words.proofs.NoChoice.{read_refusal_writes_nothing, write_refusal_writes_nothing, report_refusal_writes_nothing}

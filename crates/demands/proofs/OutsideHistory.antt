@@ -16,7 +16,8 @@ use Rattle.book_rules.proofs.Form.{form_laws}
 use Rattle.book_history.specs.Adding.{additions}
 use Rattle.book_history.proofs.Run.{afresh_answers, afresh_edited}
 use Rattle.book_history.proofs.Afresh.{empty_afresh, good_afresh, one_book}
-use Rattle.c_answers.specs.Answer.{capped, in_halves, bare, number_in, size_or_index_in, number_of, size_or_index_of}
+use Rattle.refusals.specs.Refusals.{number_of}
+use Rattle.c_answers.specs.Answer.{capped, in_halves, bare, number_in, size_or_index_in, size_or_index_of}
 use Rattle.c_answers.proofs.Packs.{bare_again}
 use Rattle.demands.specs.Changes.{Change, edits, loads, numbers, load_number, stood_from, stood}
 use Rattle.demands.specs.OutsideCalls.{CalledOutside, none, add, remove, load, Callable}

@@ -9,7 +9,8 @@ use Rattle.book_rules.specs.Edits.{add_says, remove_says}
 use Rattle.book_rules.specs.Load.{load_says}
 use Rattle.page_printing.specs.Promise.{print_says}
 use Rattle.page.specs.Page.{page_of}
-use Rattle.c_answers.specs.Answer.{capped, in_halves, bare, number_in, size_or_index_in, number_of, size_or_index_of}
+use Rattle.refusals.specs.Refusals.{number_of}
+use Rattle.c_answers.specs.Answer.{capped, in_halves, bare, number_in, size_or_index_in, size_or_index_of}
 use Rattle.c_words.specs.Says.{fields_say, how_many, text_says, summary_says, how_many_hits}
 use Rattle.c_words.specs.Promise.{ReadWordsPromise, WriteWordsPromise, ReportWordsPromise}
 use Rattle.same.specs.Says.{strip_says, good_says}

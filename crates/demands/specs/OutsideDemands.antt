@@ -20,7 +20,8 @@ use Rattle.report.specs.Hits.{is_of, pairs}
 use Rattle.report.specs.Report.{summary_of}
 use Rattle.report.specs.Exact.{After, wanted}
 use Rattle.report.specs.Own.{Agree}
-use Rattle.c_answers.specs.Answer.{number_in, size_or_index_in, number_of}
+use Rattle.refusals.specs.Refusals.{number_of}
+use Rattle.c_answers.specs.Answer.{number_in, size_or_index_in}
 use Rattle.c_words.specs.Words.{fields_in, summary_words}
 use Rattle.c_words.specs.Promise.{ReadWordsPromise, WriteWordsPromise, ReportWordsPromise}
 use Rattle.same.specs.declared.SameVoted.{SameVoted}

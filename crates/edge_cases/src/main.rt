@@ -64,7 +64,7 @@ fn cases<W: Write>(out: &mut W, input: &[u8]) -> io::Result<()> {
     Ok(())
 }
 
-// The input's first 8,192 bytes are read, into space of a fixed size: no program here takes memory from a heap.
+// The input's first 8,192 bytes are read, into space of a fixed size, which is not taken from a heap.
 fn main(rt: HostRuntime) -> io::Result<()> {
     let mut input = [0u8; 8192];
     let n = reading::read_input(&mut rt.stdin(), &mut input)?;

@@ -149,7 +149,7 @@ fn run<W: Write>(out: &mut W, input: &[u8]) -> io::Result<()> {
     tried_in(out, good(), &mut [0u8; 42])
 }
 
-// The input's first 16,384 bytes are read, into space of a fixed size: no program here takes memory from a heap.
+// The input's first 16,384 bytes are read, into space of a fixed size, which is not taken from a heap.
 fn main(rt: HostRuntime) -> io::Result<()> {
     let mut input = [0u8; 16384];
     let n = reading::read_input(&mut rt.stdin(), &mut input)?;

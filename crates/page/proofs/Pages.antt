@@ -6,7 +6,7 @@ use Prim.Native.Nat.{ℕ, ◌*◌}
 use lib.ListN.{take}
 use Rattle.std.specs.Prelude.{Result, Ok}
 use Rattle.laws.specs.Order.{Said, granted, refused, refused_at, is_refusal, next}
-use Rattle.refusals.specs.Refusals.{says, number_in}
+use Rattle.refusals.specs.Refusals.{says, number_of}
 use Rattle.refusals.specs.declared.Refusal.{Refusal}
 use Rattle.refusals.proofs.Said.{says_refused, says_moved}
 use Rattle.report.specs.declared.Summary.{Summary}
@@ -19,7 +19,7 @@ use Rattle.page.specs.Promise.{PagePromise}
 use Rattle.page.specs.Steps.{Reported}
 
 -- any refusal prints its number alone
-shows_refused : (s : Said Shown) → is_refusal s ≡ true → refused_text (number_in (next {B = ℕ} s (λ a. refused 0))) ≡ printed s
+shows_refused : (s : Said Shown) → is_refusal s ≡ true → refused_text (number_of (next {B = ℕ} s (λ a. refused 0))) ≡ printed s
 shows_refused (granted a) h = cc
 shows_refused (refused n) h = refl
 shows_refused (refused_at n i) h = refl
@@ -28,12 +28,12 @@ module _ (t out : List ℕ) (r : Result ℕ Refusal) (d : List ℕ) where
   promised : (text : List ℕ) → text ≡ page_of t → PrintPromise text out r d → PagePromise t out r d
   promised text e p = let q = print_as e p in record { says = q.says; lent = q.space }
 
-  pub page_refused : (e : Refusal) → input_says t ≡ says e → (n : ℕ) → n ≡ number_in (says {A = ℕ} e)
+  pub page_refused : (e : Refusal) → input_says t ≡ says e → (n : ℕ) → n ≡ number_of (says {A = ℕ} e)
       → PrintPromise (refused_text n) out r d → PagePromise t out r d
   unfolding page_of
   page_refused e h n q =
       promised (refused_text n) (
-      ap refused_text (q ∙ sym (ap number_in (says_moved e (says {A = Shown} e) refl)))
+      ap refused_text (q ∙ sym (ap number_of (says_moved e (says {A = Shown} e) refl)))
       ∙ shows_refused (says e) (says_refused Shown e)
       ∙ ap printed (sym h)
       )

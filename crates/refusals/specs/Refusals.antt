@@ -41,8 +41,8 @@ abbrev pub said : {A : Type 0} → Result A Refusal → Said A
 said (Ok a) = granted a
 said (Err e) = says e
 
--- of what is said, the number and the index
-abbrev pub number_in : {A : Type 0} → Said A → ℕ
-number_in (granted a) = 0
-number_in (refused n) = n
-number_in (refused_at n i) = n
+-- of what is said, the number; 0 where it is granted
+abbrev pub number_of : {A : Type 0} → Said A → ℕ
+number_of (granted a) = 0
+number_of (refused n) = n
+number_of (refused_at n i) = n

@@ -5,7 +5,7 @@ use std::io::{Read, Write};
 use std::rt::Files;
 use std::{fs, io};
 
-// The page of what a file holds: of its first 98,304 bytes. Both spaces have a fixed size: no program here takes memory from a heap.
+// The page of what a file holds: of its first 98,304 bytes. Both spaces have a fixed size: neither is taken from a heap.
 fn print_page<R: Read, W: Write>(file: &mut R, out: &mut W) -> io::Result<()> {
     let mut input = [0u8; 98304];
     let n = reading::read_input(file, &mut input)?;

@@ -10,7 +10,7 @@ ghost use Rattle.page.specs.Page.{page_of};
 use std::io;
 use std::io::Write;
 
-// Writes an input's page. There is always room for it, in space of a fixed size: no program here takes memory from a heap.
+// Writes an input's page. There is always room for it, in space of a fixed size, which is not taken from a heap.
 fn write_page<W: Write>(out: &mut W, input: &[u8]) -> io::Result<()>
     ensures { OnOk result (Appends (W.contents out.old) (W.contents out.new) (page_of input.now)) }
 {
