@@ -5,7 +5,7 @@ use mathlib.Core.List.{List, [], ◌∷◌, ◌++◌}
 use Prim.Native.Nat.{ℕ}
 use lib.ListN.{length}
 use lib.Dec.{eqb, ltb}
-use Rattle.laws.specs.Order.{granted, refused, ◌when◌, passes}
+use Rattle.laws.specs.Order.{granted, refused, refused_at, ◌when◌, passes}
 use Rattle.laws.proofs.Order.{passes_rows, passes_next}
 use Rattle.laws.specs.Lists.{every}
 use Rattle.laws.specs.Numbers.{within}
@@ -53,7 +53,8 @@ use Rattle.report.specs.Report.{times_rows, room_rows, alert_says, list_says, re
 use Rattle.report.proofs.NoChoice.{report_no_choice, report_refusal_writes_nothing}
 use Rattle.input_lines.proofs.NoChoice.{now_line_no_choice, client_line_no_choice, header_line_no_choice, sub_line_no_choice}
 use Rattle.page_lines.proofs.NoChoice.{size_of_no_choice}
-use Rattle.c_answers.proofs.NoChoice.{cap_no_choice, answer_no_choice, voted_no_choice, edited_no_choice, printed_no_choice, wrote_no_choice, yes_no_choice}
+use Rattle.refusals.proofs.NoChoice.{number_no_choice, index_no_choice}
+use Rattle.c_answers.proofs.NoChoice.{cap_no_choice, answer_no_choice, told_no_choice, voted_no_choice, edited_no_choice, printed_no_choice, wrote_no_choice, yes_no_choice}
 use Rattle.page_printing.specs.Promise.{print_says}
 use Rattle.page_printing.proofs.NoChoice.{print_no_choice, print_refusal_writes_nothing}
 use Rattle.page.proofs.NoChoice.{page_no_choice, page_refusal_writes_nothing}
@@ -132,12 +133,16 @@ every_call = record {
   put_byte = λ out at b r q left rest p u. put_no_choice p u;
   put_bytes = λ out at src r q left rest a b. put_no_choice a b;
   put_digits = λ out at n width r q left rest a b. put_no_choice a b;
+  number_call = λ e r q a b. number_no_choice a b;
+  index_call = λ e r q a b. index_no_choice a b;
   cap = cap_no_choice;
   answer = answer_no_choice;
   voted = voted_no_choice;
   edited = edited_no_choice;
   printed = printed_no_choice;
   wrote = wrote_no_choice;
+  told = told_no_choice (λ n. granted n) (λ n. refused n);
+  told_at = told_no_choice (λ n. granted n) (λ r. refused_at r.0 r.1);
   yes = yes_no_choice;
   outside = outside_call;
 }

@@ -34,6 +34,7 @@ use Rattle.book_rules.specs.Edits.{stands, full, add_says, remove_says}
 use Rattle.book_rules.specs.Load.{load_says, add_all, items}
 use Rattle.book_rules.specs.Afresh.{subs}
 use Rattle.refusals.specs.Refusals.{said}
+use Rattle.refusals.specs.Promise.{NumberPromise, IndexPromise}
 use Rattle.refusals.specs.declared.Refusal.{Refusal}
 use Rattle.book_records.specs.Promise.{BadClientPromise, BadWishPromise, ClientOfPromise, WishOfPromise, MarkOrNonePromise, RankOfPromise, RankOrNonePromise}
 use Rattle.book_check.specs.Promise.{IsGoodPromise}
@@ -51,7 +52,7 @@ use Rattle.page_lines.specs.Promise.{SizePromise}
 use Rattle.page_printing.specs.Page.{page_text, refused_text}
 use Rattle.page_printing.specs.Promise.{print_says, PrintPromise}
 use Rattle.page.specs.Promise.{PagePromise}
-use Rattle.c_answers.specs.Promise.{CapPromise, AnswerPromise, VotedPromise, EditedPromise, PrintedPromise, WrotePromise, YesPromise}
+use Rattle.c_answers.specs.Promise.{CapPromise, AnswerPromise, ToldPromise, VotedPromise, EditedPromise, PrintedPromise, WrotePromise, YesPromise}
 use Rattle.demands.specs.Forms.{LeavesNoChoice, LeavesNoChoiceOf, RefusalWritesNothing, GoesBy, numbered}
 use Rattle.demands.specs.Program.{ProgramNumbers}
 use Rattle.demands.specs.Outside.{OutsideCall, OutsideRefusal, OutsideNumber}
@@ -140,12 +141,17 @@ pub record EveryCall : Type 0 where
   -- put_digits, and put_count for a wider number
   pub put_digits : (out : List ℕ) (at n width : ℕ) → LeavesNoChoiceOf (PutPromise out at (dig width n))
   -- answers as one number
+  pub number_call : (e : Refusal) → LeavesNoChoice (NumberPromise e)
+  pub index_call : (e : Refusal) → LeavesNoChoice (IndexPromise e)
   pub cap : (v : ℕ) → LeavesNoChoice (CapPromise v)
   pub answer : (number sizeOrIndex : ℕ) → LeavesNoChoice (AnswerPromise number sizeOrIndex)
   pub voted : (v : Result ℕ Refusal) → LeavesNoChoice (VotedPromise v)
   pub edited : (e : Result (Unit {0}) Refusal) → LeavesNoChoice (EditedPromise e)
   pub printed : (p : Result ℕ Refusal) → LeavesNoChoice (PrintedPromise p)
   pub wrote : (w : Result ℕ Refusal) → LeavesNoChoice (WrotePromise w)
+  -- the one call whose instances the four above are; here with any number at all, alone and with an index
+  pub told : (s : Result ℕ ℕ) → LeavesNoChoice (ToldPromise (λ n. granted n) (λ n. refused n) s)
+  pub told_at : (s : Result ℕ (ℕ × ℕ)) → LeavesNoChoice (ToldPromise (λ n. granted n) (λ r. refused_at r.0 r.1) s)
   pub yes : (b : Bool) → LeavesNoChoice (YesPromise b)
   -- the 13 calls from outside, and the three over words that they hand on
   pub outside : OutsideCall
