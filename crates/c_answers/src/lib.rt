@@ -16,7 +16,7 @@ pub fn cap(v: usize) -> u32
     u32::try_from(v).unwrap_or(u32::MAX)
 }
 
-// A number in the low half, and the size or index that is named with it in the high half.
+// A number in the low half, and the size or index that is named with it in the high half. It takes any number, as `AnswerPromise` does.
 pub fn answer(number: u32, named: usize) -> u64
     ensures { AnswerPromise number named result }
 {
@@ -49,7 +49,7 @@ impl Halves for () {
     }
 }
 
-// A refusal by its number alone.
+// A refusal by its number alone: `told` takes any, and so this and the next, which no call of the library needs.
 impl Halves for u32 {
     ghost said_of = { λ n. refused n };
 

@@ -72,7 +72,7 @@ fn give(f: Fields, out: &mut [u32]) -> Result<usize, Refusal>
 
 // ---- words read
 
-// A word as a byte; one over 255 as the byte 0, which no field of bytes allows.
+// A word as a byte; one over 255 as the byte 0, which no field of bytes allows, as `fields_in` of the C interface has it.
 fn byte_of(w: u32) -> u8
     ensures { result ≡ byte_of w }
 {

@@ -201,8 +201,8 @@ pub fn date_of(year: u32, day: u32) -> Result<MonthDay, Refusal>
     Err(Refusal::NoSuchDay)
 }
 
-// Whether a header is early, live or expired at a clock: or 15, 9, 10, 14. The issue's day, hour and minute stay three parameters, since the
-// call is public.
+// Whether a header is early, live or expired at a clock: or 15, 9, 10, 14. The issue's day, hour and minute stay three parameters, as
+// `LifetimePromise` and `TimesPromise` take them.
 pub fn lifetime(
     at: Clock,
     day: u32,

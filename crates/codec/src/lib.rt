@@ -76,7 +76,7 @@ pub fn put_count(out: &mut [u8], at: usize, n: usize, width: usize) -> bool
     true
 }
 
-// The same of a number of 32 bits, such as digits_at gives.
+// The same of a number of 32 bits, such as digits_at gives: a call of its own, since both are public.
 pub fn put_digits(out: &mut [u8], at: usize, n: u32, width: usize) -> bool
     ensures { PutPromise out.old at (dig width n) result out.new }
 {

@@ -68,7 +68,7 @@ pub fn is_duration(minutes: u32) -> bool
     is_duration_of(minutes / 60, minutes % 60)
 }
 
-// Whether a text can say this day, hour and minute.
+// Whether a text can say this day, hour and minute: three parameters, as `IsIssuePromise` takes them.
 pub fn is_issue(day: u32, hour: u32, minute: u32) -> bool
     ensures { IsIssuePromise day hour minute result }
 {

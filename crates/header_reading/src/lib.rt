@@ -8,7 +8,8 @@ ghost use Rattle.header_reading.specs.Steps.{PlacesAt, FrontOf};
 use header::Fields;
 use refusals::Refusal;
 
-// Everything before the sender, but for origin and event: how many places, the duration, the issue, and the index behind them.
+// Everything before the sender, but for origin and event: how many places, the duration, the issue, and the index behind them. The
+// issue is day, hour and minute, as `Fields` has them.
 #[derive(Clone, Copy)]
 struct Opening {
     count: usize,

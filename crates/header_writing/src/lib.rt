@@ -94,6 +94,7 @@ fn put_duration(out: &mut [u8], at: usize, minutes: u32)
     codec::put_byte(out, at + 4, 45);
 }
 
+// Three of the fields, as `issue_text` takes them.
 fn put_issue(out: &mut [u8], at: usize, day: u32, hour: u32, minute: u32)
     requires { at + 8 ≤ length out.old }
     ensures { out.new ≡ pasted out.old at (issue_text day hour minute) }

@@ -88,7 +88,8 @@ fn room_for_hits(room: usize, listed: bool, phase: Phase, w: usize, event: usize
     room.checked_sub(some)?.checked_sub(w)?.checked_sub(event)
 }
 
-// Prints a refusal's one line to the front of out, and says its length; or 13 where it does not fit, and nothing is written.
+// Prints a refusal's one line to the front of out, and says its length; or 13 where it does not fit, and nothing is written. It takes any
+// number, as `refused_text` does.
 pub fn print_refusal(out: &mut [u8], number: u32) -> Result<usize, Refusal>
     ensures { PrintPromise (refused_text number) out.old result out.new }
 {

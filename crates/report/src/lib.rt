@@ -13,7 +13,8 @@ ghost use Rattle.report.specs.Steps.{rec, record_matches, found, hit_subs, rec_o
 
 use refusals::Refusal;
 
-// What a report says of the text. `listed` stands beside the class and is no Option, since a code that is not listed has a class too.
+// What a report says of the text. `listed` stands beside the class and is no Option, since a code that is not listed has a class too; and the two
+// are no struct, since the page and `summary_words` of the C interface read the fields one by one.
 #[derive(Clone, Copy)]
 pub struct Summary {
     pub times: clock::Times,
