@@ -95,9 +95,9 @@ module _ (t codes : List ℕ) (short : length t ≤ 252) where
         places = codes;
         duration = f.minutes;
         count = f.count;
-        day = f.day;
-        hour = f.hour;
-        minute = f.minute;
+        day = f.issue.day;
+        hour = f.issue.hour;
+        minute = f.issue.minute;
         origin = o;
         event = e;
         sender = w;
@@ -108,4 +108,4 @@ module _ (t codes : List ℕ) (short : length t ≤ 252) where
       all_read o e w qo qe qw l =
           an_answer t (fields_of o e w) p.1
           (ends t (all, take 8 (drop j t)) (j + 9) short l after
-          ∙ (λ q. granted (alert_of ((tt, (sym qo q, (sym qe q, (take f.count codes, (f.minutes, (f.day, (f.hour, f.minute))))))), sym qw q))))
+          ∙ (λ q. granted (alert_of ((tt, (sym qo q, (sym qe q, (take f.count codes, (f.minutes, (f.issue.day, (f.issue.hour, f.issue.minute))))))), sym qw q))))

@@ -15,6 +15,7 @@ use Rattle.header.specs.Parts.{places, duration_and_issue}
 use Rattle.header.proofs.Round.{front_law}
 use Rattle.header.proofs.Stages.{at_13, no_list, at_times, no_duration, no_issue, both_times}
 use Rattle.header_fields.specs.Says.{told}
+use Rattle.header_fields.specs.declared.Issue.{Issue}
 use Rattle.header_fields.proofs.Told.{stopped}
 use Rattle.header_reading.specs.Steps.{PlacesAt, FrontOf}
 use Rattle.header_reading.specs.declared.Opening.{Opening}
@@ -41,12 +42,12 @@ module _
         pub no_moment : no 10 (j + 5) ≡ (field 10 issue dash).get (drop (j + 5) t) (j + 5) → FrontOf t codes (Err (NoIssueAt (j + 5)))
         no_moment w = sym (ap told (last_stop list_ends 10 (j + 5) (sym (no_issue t j list_ends.inside m e w))))
 
-        pub times_end : (d h n : ℕ) → got (d, (h, n)) (drop (j + 5 + 8) t) (j + 5 + 8) ≡ (field 10 issue dash).get (drop (j + 5) t) (j + 5)
-            → FrontOf t codes (Ok (record { count = c; minutes = m; day = d; hour = h; minute = n; at = j + 13 }))
-        times_end d h n w =
+        pub times_end : (i : Issue) → got (i.day, (i.hour, i.minute)) (drop (j + 5 + 8) t) (j + 5 + 8) ≡ (field 10 issue dash).get (drop (j + 5) t) (j + 5)
+            → FrontOf t codes (Ok (record { count = c; minutes = m; issue = i; at = j + 13 }))
+        times_end i w =
             let x : j + 5 + 8 ≡ j + 13 = omega arith in
-            let both = both_times t j list_ends.inside m e d h n w in
-            (sym (last list_ends (m, (d, (h, n))) (drop (j + 13) t) (j + 13) (sym (rw x at both))), p.1)
+            let both = both_times t j list_ends.inside m e i.day i.hour i.minute w in
+            (sym (last list_ends (m, (i.day, (i.hour, i.minute))) (drop (j + 13) t) (j + 13) (sym (rw x at both))), p.1)
 
 pub front_inside : (t codes : List ℕ) (f : Opening) → FrontOf t codes (Ok f) → f.at ≤ length t
 front_inside t codes f p = left_inside front front_law t 0 _ (drop f.at t) f.at (sym p.0) (omega arith)

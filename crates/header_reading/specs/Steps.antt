@@ -32,7 +32,7 @@ PlacesAt text at codes (Err e) = StopsAs places text at e
 -- ---- everything before the sender
 
 abbrev pub before : List ℕ → List ℕ → Opening → Front
-before text codes f = (tt, (take 3 (drop 5 text), (take 3 (drop 9 text), (take f.count codes, (f.minutes, (f.day, (f.hour, f.minute)))))))
+before text codes f = (tt, (take 3 (drop 5 text), (take 3 (drop 9 text), (take f.count codes, (f.minutes, (f.issue.day, (f.issue.hour, f.issue.minute)))))))
 
 abbrev pub FrontOf : List ℕ → List ℕ → Result Opening Refusal → Type 0
 FrontOf text codes (Ok f) = Gets front text 0 (before text codes f) f.at × Filled codes f.count

@@ -6,6 +6,7 @@ ghost use Rattle.header.specs.Promise.{ReadPromise};
 ghost use Rattle.header_reading.specs.Steps.{PlacesAt, FrontOf};
 
 use header::Fields;
+use header_fields::Issue;
 use refusals::Refusal;
 
 // Everything before the sender, but for origin and event: how many places, the duration, the issue, and the index behind them. The
@@ -14,9 +15,7 @@ use refusals::Refusal;
 struct Opening {
     count: usize,
     minutes: u32,
-    day: u32,
-    hour: u32,
-    minute: u32,
+    issue: Issue,
     at: usize,
 }
 
@@ -60,9 +59,7 @@ fn front_of(text: &[u8], codes: &mut [u32; 31]) -> Result<Opening, Refusal>
     Ok(Opening {
         count,
         minutes,
-        day: issue.day,
-        hour: issue.hour,
-        minute: issue.minute,
+        issue,
         at: at + 13,
     })
 }
@@ -91,9 +88,9 @@ fn signed(text: &[u8], places: [u32; 31], opening: Opening) -> Result<Fields, Re
         places,
         duration: opening.minutes,
         count: opening.count,
-        day: opening.day,
-        hour: opening.hour,
-        minute: opening.minute,
+        day: opening.issue.day,
+        hour: opening.issue.hour,
+        minute: opening.issue.minute,
         origin: bytes_at(text, 5),
         event: bytes_at(text, 9),
         sender: bytes_at(text, at),

@@ -20,15 +20,14 @@ use Rattle.book_rules.specs.Afresh.{sub_of, subs}
 use Rattle.book_rules.proofs.Good.{good_says}
 use Rattle.report.specs.Hits.{has_class, matching, is_hit}
 use Rattle.report.specs.Steps.{record_matches, found, hit_subs}
-use Rattle.report.specs.declared.Wanted.{Wanted}
 
 -- by the one test of the client: of the client's record it is left to ask whether it matches, and another's is no hit
-module _ (wanted : Wanted) (sent : List ℕ) (r : Rec) where
-  pub own : eqb (form.who r.second) wanted.client ≡ true → found wanted sent r ≡ record_matches wanted.class sent r
+module _ (client class : ℕ) (sent : List ℕ) (r : Rec) where
+  pub own : eqb (form.who r.second) client ≡ true → found client class sent r ≡ record_matches class sent r
   unfolding found
   own e = rw e
 
-  pub not_own : eqb (form.who r.second) wanted.client ≡ false → found wanted sent r ≡ false
+  pub not_own : eqb (form.who r.second) client ≡ false → found client class sent r ≡ false
   unfolding found
   not_own e = rw e
 
@@ -65,18 +64,18 @@ small w g i l =
     let h : rec_state (rec_at w i) ≤ 99 = within_hi 1 99 (rec_state (rec_at w i)) s in
     omega arith
 
-module _ (wanted : Wanted) (places : List ℕ) (six : every (λ p. ltb p 1000000) places ≡ true) where
+module _ (client class : ℕ) (places : List ℕ) (six : every (λ p. ltb p 1000000) places ≡ true) where
   abbrev seen : Rec → Bool
-  seen = found wanted (map packed_place places)
+  seen = found client class (map packed_place places)
 
   abbrev hit : Sub → Bool
-  hit = is_hit wanted.client wanted.class places
+  hit = is_hit client class places
 
   found_is : (r : Rec) → r.first < 1000000 → seen r ≡ by_sub hit r
   unfolding found record_matches is_hit matching
   found_is r h =
       let e = packed_some r.first places h six in
-      λ i. eqb (form.who r.second) wanted.client && (e i && has_class (form.wish r.second) wanted.class)
+      λ i. eqb (form.who r.second) client && (e i && has_class (form.wish r.second) class)
 
   pub hits_found : (w : List ℕ) → good form w ≡ true → hit_subs seen w ≡ keep hit (subs form w)
   unfolding hit_subs subs recs

@@ -41,7 +41,6 @@ use Rattle.report.specs.Answers.{answer_says}
 use Rattle.report.specs.Promise.{writes_hits, ReportPromise}
 use Rattle.report.specs.Steps.{found, hit_subs, ListsHits, listed_class_of, timed_says, TimedReport, Readable, AlertReport}
 use Rattle.report.specs.declared.Summary.{Summary}
-use Rattle.report.specs.declared.Wanted.{Wanted}
 use Rattle.report.proofs.Found.{hits_found}
 use Rattle.header.proofs.Callers.{Allowed, allowed}
 use Rattle.header.proofs.Round.{read_form}
@@ -207,13 +206,10 @@ module _ (f : Fields) (h : f.count ≤ length f.places) (last : List ℕ) (packs
   sent_are = packs ∙ ap (map packed_place) (sym (take-append-le f.count f.places (replicate f.count 0) h))
 
   module _ (client : ℕ) (k : ListedClass) (book : List ℕ) where
-    abbrev asked : Wanted
-    asked = record { client = client; class = k.class }
-
     pub hits_are : good form book ≡ true → every (λ p. ltb p 1000000) (alert_in f).places ≡ true → k ≡ listed_class_of f.event
-        → hit_subs (found asked sent) book ≡ hits_of client (alert_in f) (subs form book)
+        → hit_subs (found client k.class sent) book ≡ hits_of client (alert_in f) (subs form book)
     unfolding hits_of
     hits_are g codes e =
-        ap (λ (s : List ℕ). hit_subs (found asked s) book) (packed_front ∙ sent_are)
-        ∙ hits_found asked (alert_in f).places codes book g
+        ap (λ (s : List ℕ). hit_subs (found client k.class s) book) (packed_front ∙ sent_are)
+        ∙ hits_found client k.class (alert_in f).places codes book g
         ∙ ap (λ (y : ListedClass). keep (is_hit client y.class (alert_in f).places) (subs form book)) e

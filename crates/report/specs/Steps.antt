@@ -24,7 +24,6 @@ use Rattle.report.specs.Promise.{writes_hits}
 use Rattle.report.specs.declared.Summary.{Summary}
 use Rattle.refusals.specs.Refusals.{said}
 use Rattle.refusals.specs.declared.Refusal.{Refusal}
-use Rattle.report.specs.declared.Wanted.{Wanted}
 
 -- a record of two words
 abbrev pub rec : ℕ → ℕ → Rec
@@ -35,8 +34,8 @@ unfoldable pub record_matches : ℕ → List ℕ → Rec → Bool
 record_matches class sent r = packed_match_some (packed r.first) sent && has_class (form.wish r.second) class
 
 -- and for a hit: it is this client's too
-unfoldable pub found : Wanted → List ℕ → Rec → Bool
-found wanted sent r = eqb (form.who r.second) wanted.client && record_matches wanted.class sent r
+unfoldable pub found : ℕ → ℕ → List ℕ → Rec → Bool
+found client class sent r = eqb (form.who r.second) client && record_matches class sent r
 
 -- the subscriptions of those records of a book that pass a test
 unfoldable pub hit_subs : (Rec → Bool) → List ℕ → List Sub

@@ -39,11 +39,12 @@ fn has_class(wish: u32, class: u32) -> bool
     (wish >> (class - 1)) % 2 == 1
 }
 
-// Whose records a report lists, and the class of the alert.
+// Whose records a report lists, the class of the alert, and the places that were sent, packed.
 #[derive(Clone, Copy)]
-struct Wanted {
+struct Wanted<'a> {
     client: u32,
     class: u32,
+    sent: &'a [u32],
 }
 
 // Whether a record is this client's, by its second word: one comparison.
@@ -54,35 +55,35 @@ fn is_own(second: u32, client: u32) -> bool
 }
 
 // Whether a record matches, whoever's it is: its wish has the class, and its place matches one that was sent.
-fn record_matches(first: u32, second: u32, class: u32, sent: &[u32]) -> bool
-    ensures { result ≡ record_matches class sent.now (rec first second) }
+fn record_matches(first: u32, second: u32, wanted: Wanted<'_>) -> bool
+    ensures { result ≡ record_matches wanted.entry.class wanted.entry.sent.now (rec first second) }
 {
-    if !has_class(book_records::wish_of(second), class) {
+    if !has_class(book_records::wish_of(second), wanted.class) {
         return false;
     }
-    place::packed_match_some(place::pack(first), sent)
+    place::packed_match_some(place::pack(first), wanted.sent)
 }
 
 // How many of some records are hits. The client is tested first, and once: another's record costs one look and one comparison, and no
 // call.
 #[tactic(auto, unfolding(crate::specs::Steps::found))]
-fn count_hits(records: &[[u32; 2]], wanted: Wanted, sent: &[u32]) -> usize
-    ensures { result ≡ count_by (λ r. found wanted sent.now (rec_of r)) records.now }
+fn count_hits(records: &[[u32; 2]], wanted: Wanted<'_>) -> usize
+    ensures { result ≡ count_by (λ r. found wanted.entry.client wanted.entry.class wanted.entry.sent.now (rec_of r)) records.now }
 {
     records
         .iter()
         .filter(|[first, second]| {
-            is_own(*second, wanted.client) && record_matches(*first, *second, wanted.class, sent)
+            is_own(*second, wanted.client) && record_matches(*first, *second, wanted)
         })
         .count()
 }
 
 // Writes the place and the wish of a record of the client at index at if it matches, and answers the index after what was written.
-fn put_hit(first: u32, second: u32, class: u32, sent: &[u32], out: &mut [u32], at: usize) -> usize
-    requires { at + 2 * one (record_matches class sent.now (rec first second)) ≤ length out.old }
-    ensures { WroteHits out.old at (hit_words (record_matches class sent.now) (rec first second ∷ [])) out.new result }
+fn put_hit(first: u32, second: u32, wanted: Wanted<'_>, out: &mut [u32], at: usize) -> usize
+    requires { at + 2 * one (record_matches wanted.class wanted.sent.now (rec first second)) ≤ length out.old }
+    ensures { WroteHits out.old at (hit_words (record_matches wanted.entry.class wanted.entry.sent.now) (rec first second ∷ [])) out.new result }
 {
-    if !record_matches(first, second, class, sent) {
+    if !record_matches(first, second, wanted) {
         return at;
     }
     out[at] = place::place_of(first);
@@ -91,14 +92,14 @@ fn put_hit(first: u32, second: u32, class: u32, sent: &[u32], out: &mut [u32], a
 }
 
 // Writes the hits of some records, and answers the index after them. Another's record costs as little as in the count.
-fn write_hits(records: &[[u32; 2]], wanted: Wanted, sent: &[u32], out: &mut [u32]) -> usize
-    requires { 2 * tally (found wanted sent.now) (recs_in records.now) ≤ length out.old }
-    ensures { WroteHits out.old 0 (hit_words (found wanted sent.now) (recs_in records.now)) out.new result }
+fn write_hits(records: &[[u32; 2]], wanted: Wanted<'_>, out: &mut [u32]) -> usize
+    requires { 2 * tally (found wanted.client wanted.class wanted.sent.now) (recs_in records.now) ≤ length out.old }
+    ensures { WroteHits out.old 0 (hit_words (found wanted.entry.client wanted.entry.class wanted.entry.sent.now) (recs_in records.now)) out.new result }
 {
     let mut e = 0;
     for [first, second] in records {
         if is_own(*second, wanted.client) {
-            e = put_hit(*first, *second, wanted.class, sent, out, e);
+            e = put_hit(*first, *second, wanted, out, e);
         }
     }
     e
@@ -124,28 +125,23 @@ impl<'a> GoodBook<'a> {
 }
 
 // Whether the hits of some records find room in so many words. Where all of the records do, the hits need no count.
-fn has_room(records: &[[u32; 2]], wanted: Wanted, sent: &[u32], room: usize) -> bool
+fn has_room(records: &[[u32; 2]], wanted: Wanted<'_>, room: usize) -> bool
     requires { length records.now ≤ 4096 }
-    ensures { result ≡ not (ltb room (2 * tally (found wanted sent.now) (recs_in records.now))) }
+    ensures { result ≡ not (ltb room (2 * tally (found wanted.entry.client wanted.entry.class wanted.entry.sent.now) (recs_in records.now))) }
 {
-    2 * records.len() <= room || 2 * count_hits(records, wanted, sent) <= room
+    2 * records.len() <= room || 2 * count_hits(records, wanted) <= room
 }
 
 // Writes the hits where there is room for them. Too little room must write nothing, so it is asked for first: one pass over the
 // records, or two, of which the first counts.
-fn list_hits(
-    book: GoodBook<'_>,
-    wanted: Wanted,
-    sent: &[u32],
-    out: &mut [u32],
-) -> Result<usize, Refusal>
-    ensures { ListsHits (hit_subs (found wanted sent.now) book.entry.words.now) out.old result out.new }
+fn list_hits(book: GoodBook<'_>, wanted: Wanted<'_>, out: &mut [u32]) -> Result<usize, Refusal>
+    ensures { ListsHits (hit_subs (found wanted.entry.client wanted.entry.class wanted.entry.sent.now) book.entry.words.now) out.old result out.new }
 {
     let records = book.records();
-    if !has_room(records, wanted, sent, out.len()) {
+    if !has_room(records, wanted, out.len()) {
         return Err(Refusal::NoRoom);
     }
-    Ok(write_hits(records, wanted, sent, out) / 2)
+    Ok(write_hits(records, wanted, out) / 2)
 }
 
 // ---- the report
@@ -175,8 +171,9 @@ fn timed_report(
     let wanted = Wanted {
         client,
         class: kind.class,
+        sent: &places[..n],
     };
-    let hits = list_hits(book, wanted, &places[..n], out)?;
+    let hits = list_hits(book, wanted, out)?;
     Ok(Summary {
         times,
         event: f.event,

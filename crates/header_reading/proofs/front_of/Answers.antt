@@ -94,7 +94,7 @@ overflow_add-result c =
     let k = c.in_ok-count in
     let nine = rw c.in_ok-minutes.ensures.ok_part at c.minutes_at.ensures.says in
     let ten = rw c.in_ok-issue.ensures.ok_part at c.issue_at.ensures.says in
-    let read = times_end t codes five six seven k.count k.at k.ensures _ nine _ _ _ ten in
+    let read = times_end t codes five six seven k.count k.at k.ensures _ nine c.in_ok-issue.issue ten in
     omega (arith, front_inside t codes _ read)
 
 pub returns : goal.returns
@@ -107,4 +107,4 @@ returns c =
     let k = c.in_ok-count in
     let nine = rw c.in_ok-minutes.ensures.ok_part at c.minutes_at.ensures.says in
     let ten = rw c.in_ok-issue.ensures.ok_part at c.issue_at.ensures.says in
-    times_end t codes five six seven k.count k.at k.ensures _ nine _ _ _ ten
+    times_end t codes five six seven k.count k.at k.ensures _ nine c.in_ok-issue.issue ten

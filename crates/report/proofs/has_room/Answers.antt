@@ -19,7 +19,7 @@ room_is a b = ⊎_elim (λ (l : b < a). lt-leb a b l ∙ sym (ap not (lt-ltb b a
 pub returns-then-records-room : goal.returns-then-records-room
 returns-then-records-room c =
     let a = c.args in
-    let k = found a.wanted a.sent.now in
+    let k = found a.wanted.client a.wanted.class a.wanted.sent.now in
     let f = tally_few k a.records.now in
     le-leb (2 * length a.records.now) a.room (omega arith) ∙ sym (ap not (le-ltb a.room (2 * tally k (recs_in a.records.now)) (omega arith)))
 
@@ -27,4 +27,4 @@ pub returns-else-records-room : goal.returns-else-records-room
 returns-else-records-room c =
     let a = c.args in
     room_is (2 * c.count_hits.result) a.room
-    ∙ ap (λ (n : ℕ). not (ltb a.room (2 * n))) (c.count_hits.ensures ∙ counted (found a.wanted a.sent.now) a.records.now)
+    ∙ ap (λ (n : ℕ). not (ltb a.room (2 * n))) (c.count_hits.ensures ∙ counted (found a.wanted.client a.wanted.class a.wanted.sent.now) a.records.now)

@@ -37,17 +37,17 @@ module _ (k : Rec → Bool) (w out : List ℕ) (rs : List (List ℕ)) (these : r
 pub returns-then-not-has_room : goal.returns-then-not-has_room
 returns-then-not-has_room c =
     let a = c.args in
-    short (found a.wanted a.sent.now) a.book.words.now a.out.now c.records-records.result.now c.records-records.ensures.these
+    short (found a.wanted.client a.wanted.class a.wanted.sent.now) a.book.words.now a.out.now c.records-records.result.now c.records-records.ensures.these
     (not-false _ (sym c.has_room.ensures ∙ c.if-not-has_room.true))
 
 pub write_hits-requires : goal.write_hits-requires
 write_hits-requires c =
     let a = c.args in
-    ltb-false (length a.out.now) (2 * tally (found a.wanted a.sent.now) (recs_in c.records-records.result.now))
+    ltb-false (length a.out.now) (2 * tally (found a.wanted.client a.wanted.class a.wanted.sent.now) (recs_in c.records-records.result.now))
     (not-true _ (sym c.has_room.ensures ∙ c.if-not-has_room.false))
 
 pub returns : goal.returns
 returns c =
     let a = c.args in
-    all (found a.wanted a.sent.now) a.book.words.now a.out.now c.records-records.result.now c.records-records.ensures.these c.write_hits.result _
+    all (found a.wanted.client a.wanted.class a.wanted.sent.now) a.book.words.now a.out.now c.records-records.result.now c.records-records.ensures.these c.write_hits.result _
     (not-true _ (sym c.has_room.ensures ∙ c.if-not-has_room.false)) c.write_hits.ensures

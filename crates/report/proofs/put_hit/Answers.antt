@@ -35,7 +35,7 @@ pub returns-then-not-record_matches : goal.returns-then-not-record_matches
 returns-then-not-record_matches c =
     let a = c.args in
     let h = sym c.record_matches.ensures ∙ c.if-not-record_matches.true in
-    nothing (record_matches a.class a.sent.now) (rec a.first a.second) a.out.now a.at h
+    nothing (record_matches a.wanted.class a.wanted.sent.now) (rec a.first a.second) a.out.now a.at h
 
 pub bounds-out-at : goal.bounds-out-at
 bounds-out-at c = omega (arith, ap one (sym c.record_matches.ensures ∙ c.if-not-record_matches.false))
@@ -46,6 +46,6 @@ bounds-out-at-2 c = simp length-set (omega (arith, ap one (sym c.record_matches.
 pub returns : goal.returns
 returns c =
     let a = c.args in
-    let k = record_matches a.class a.sent.now in
+    let k = record_matches a.wanted.class a.wanted.sent.now in
     stored k (rec a.first a.second) a.out.now a.at c.place_of.result c.wish_of.result (sym c.record_matches.ensures ∙ c.if-not-record_matches.false) (omega (arith, ap one (sym c.record_matches.ensures ∙ c.if-not-record_matches.false)))
     c.place_of.ensures.says c.wish_of.ensures.says

@@ -22,12 +22,12 @@ module _ (class : ℕ) (sent : List ℕ) (r : Rec) where
 pub returns-then-not-has_class : goal.returns-then-not-has_class
 returns-then-not-has_class c =
     let a = c.args in
-    unwished a.class a.sent.now (rec a.first a.second) (sym (c.has_class.ensures ∙ ap (λ (v : ℕ). has_class v c.args.class) c.wish_of.ensures.says) ∙ c.if-not-has_class.true)
+    unwished a.wanted.class a.wanted.sent.now (rec a.first a.second) (sym (c.has_class.ensures ∙ ap (λ (v : ℕ). has_class v a.wanted.class) c.wish_of.ensures.says) ∙ c.if-not-has_class.true)
 
 pub returns : goal.returns
 returns c =
     let a = c.args in
     let yes = c.if-not-has_class.false in
     c.packed_match_some.ensures.says
-    ∙ ap (λ (p : ℕ). packed_match_some p a.sent.now) c.pack.ensures.says
-    ∙ by_place a.class a.sent.now (rec a.first a.second) (sym (c.has_class.ensures ∙ ap (λ (v : ℕ). has_class v c.args.class) c.wish_of.ensures.says) ∙ yes)
+    ∙ ap (λ (p : ℕ). packed_match_some p a.wanted.sent.now) c.pack.ensures.says
+    ∙ by_place a.wanted.class a.wanted.sent.now (rec a.first a.second) (sym (c.has_class.ensures ∙ ap (λ (v : ℕ). has_class v a.wanted.class) c.wish_of.ensures.says) ∙ yes)

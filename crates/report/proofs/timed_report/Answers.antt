@@ -28,8 +28,8 @@ slice_bounds-places-end-2 c =
     let n = packed_long c.args.f c.requires.few _ c.pack_places.ensures.lent in
     rw length-append (omega arith)
 
-pub slice_bounds-list_hits-end : goal.slice_bounds-list_hits-end
-slice_bounds-list_hits-end c =
+pub slice_bounds-wanted-end : goal.slice_bounds-wanted-end
+slice_bounds-wanted-end c =
     let f = c.args.f in
     let few = c.requires.few in
     let p = c.pack_places.ensures.lent in

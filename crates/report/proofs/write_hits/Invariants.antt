@@ -8,4 +8,4 @@ use Rattle.report.proofs.write_hits.Given as goal
 
 abbrev pub invariant-loop-first : goal.invariant-loop-first
 invariant-loop-first l =
-    (length l.out ≡ length l.initial.out) × WroteHits l.initial.out 0 (hit_words (found l.wanted l.sent) (table l.first-index (λ i. rec_of (get_or l.records i [])))) l.out l.e
+    (length l.out ≡ length l.initial.out) × WroteHits l.initial.out 0 (hit_words (found l.wanted.client l.wanted.class l.wanted.sent.now) (table l.first-index (λ i. rec_of (get_or l.records i [])))) l.out l.e
