@@ -9,8 +9,7 @@ use header::Fields;
 use header_fields::Issue;
 use refusals::Refusal;
 
-// Everything before the sender, but for origin and event: how many places, the duration, the issue, and the index behind them. The
-// issue is day, hour and minute, as `Fields` has them.
+// Everything before the sender, but for origin and event: how many places, the duration, the issue, and the index behind them.
 #[derive(Clone, Copy)]
 struct Opening {
     count: usize,
