@@ -10,26 +10,32 @@ use refusals::Refusal;
 use std::io;
 use std::io::Write;
 
-const MARKS: [u8; 8] = *b"<!\"#$%&'";
+// Each mark, and the byte that is meant.
+const MARKS: [(u8, u8); 8] = [
+    (b'<', 0xAB),
+    (b'!', 0xAA),
+    (b'"', 0xA9),
+    (b'#', 0xAF),
+    (b'$', 0xA3),
+    (b'%', 0xBB),
+    (b'&', 0x8B),
+    (b'\'', 0xEB),
+];
 
-const PREAMBLES: [u8; 8] = [0xAB, 0xAA, 0xA9, 0xAF, 0xA3, 0xBB, 0x8B, 0xEB];
-
-// A byte of one table becomes the byte at the same index of the other; any other byte stays.
-fn exchange(b: u8, from: &[u8; 8], to: &[u8; 8]) -> u8 {
-    for (x, y) in from.iter().zip(to) {
-        if *x == b {
-            return *y;
-        }
-    }
-    b
+// The byte that is meant by a mark; any other byte stays.
+fn meant(b: u8) -> u8 {
+    MARKS
+        .iter()
+        .find(|pair| pair.0 == b)
+        .map_or(b, |pair| pair.1)
 }
 
-fn meant(mark: u8) -> u8 {
-    exchange(mark, &MARKS, &PREAMBLES)
-}
-
+// The mark of a byte; any other byte stays.
 fn marked(b: u8) -> u8 {
-    exchange(b, &PREAMBLES, &MARKS)
+    MARKS
+        .iter()
+        .find(|pair| pair.1 == b)
+        .map_or(b, |pair| pair.0)
 }
 
 // Bytes as they are written in the input.

@@ -9,7 +9,7 @@ use Rattle.refusals.proofs.Said.{never_granted}
 use Rattle.refusals.proofs.NoChoice.{said_one}
 use Rattle.input_lines.specs.Answers.{now_parts, sub_parts, header_parts, with_index, said_as}
 use Rattle.input_lines.specs.Promise.{NowLinePromise, ClientLinePromise, HeaderLinePromise, SubLinePromise}
-use Rattle.input_lines.specs.declared.NowLine.{NowLine}
+use Rattle.clock.specs.declared.Clock.{Clock}
 use Rattle.input_lines.specs.declared.HeaderLine.{HeaderLine}
 use Rattle.input_lines.specs.declared.SubLine.{SubLine}
 
@@ -20,7 +20,7 @@ said_as_one f g back (Ok a) (Err y) e = never_granted y (sym e)
 said_as_one f g back (Err x) (Ok b) e = never_granted x e
 said_as_one {B = B} f g back (Err x) (Err y) e = ap Err (says_one {A = B} x y e)
 
-abbrev now_back : (ℕ × (ℕ × (ℕ × ℕ))) × ℕ → NowLine × ℕ
+abbrev now_back : (ℕ × (ℕ × (ℕ × ℕ))) × ℕ → Clock × ℕ
 now_back ((y, (d, (h, m))), j) = (record { year = y; day = d; hour = h; minute = m }, j)
 
 abbrev header_back : ℕ × (ℕ × ℕ) → HeaderLine × ℕ
@@ -29,7 +29,7 @@ header_back (from, (to, j)) = (record { from = from; to = to }, j)
 abbrev sub_back : (ℕ × (ℕ × ℕ)) × ℕ → SubLine × ℕ
 sub_back ((p, (c, w)), j) = (record { place = p; client = c; wish = w }, j)
 
-pub now_line_no_choice : {input : List ℕ} {at : ℕ} {r q : Result (NowLine × ℕ) Refusal} → NowLinePromise input at r → NowLinePromise input at q → r ≡ q
+pub now_line_no_choice : {input : List ℕ} {at : ℕ} {r q : Result (Clock × ℕ) Refusal} → NowLinePromise input at r → NowLinePromise input at q → r ≡ q
 now_line_no_choice {r = r} {q = q} a b = said_as_one (with_index now_parts) now_back (λ a. refl) r q (a.says ∙ sym b.says)
 
 pub client_line_no_choice : {input : List ℕ} {at : ℕ} {r q : Result (ℕ × ℕ) Refusal} → ClientLinePromise input at r → ClientLinePromise input at q → r ≡ q

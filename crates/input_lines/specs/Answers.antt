@@ -3,11 +3,11 @@ use Rattle.std.specs.Prelude.{ℕ, Result, Ok, Err}
 use Rattle.laws.specs.Order.{Said, granted}
 use Rattle.refusals.specs.Refusals.{says}
 use Rattle.refusals.specs.declared.Refusal.{Refusal}
-use Rattle.input_lines.specs.declared.NowLine.{NowLine}
+use Rattle.clock.specs.declared.Clock.{Clock}
 use Rattle.input_lines.specs.declared.HeaderLine.{HeaderLine}
 use Rattle.input_lines.specs.declared.SubLine.{SubLine}
 
-abbrev pub now_parts : NowLine → ℕ × (ℕ × (ℕ × ℕ))
+abbrev pub now_parts : Clock → ℕ × (ℕ × (ℕ × ℕ))
 now_parts l = (l.year, (l.day, (l.hour, l.minute)))
 
 abbrev pub sub_parts : SubLine → ℕ × (ℕ × ℕ)

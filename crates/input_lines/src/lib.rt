@@ -9,17 +9,10 @@ ghost use Rattle.input_lines.specs.Answers.{now_parts, sub_parts};
 ghost use Rattle.input_lines.specs.Promise.{NowLinePromise, ClientLinePromise, HeaderLinePromise, SubLinePromise};
 ghost use Rattle.input_lines.specs.Steps.{line_of, tagged_of, form_of, FixedLine};
 
+use clock::Clock;
 use refusals::Refusal;
 
 // What a line says stands beside the index after its byte 10. A malformed line is 23.
-
-#[derive(Clone, Copy, Debug, PartialEq, Eq)]
-pub struct NowLine {
-    pub year: u32,
-    pub day: u32,
-    pub hour: u32,
-    pub minute: u32,
-}
 
 // The header's bytes stand from index from on, up to index to.
 #[derive(Clone, Copy, Debug, PartialEq, Eq)]
@@ -66,7 +59,7 @@ fn tagged(line: &[u8], at: usize, word: &[u8], w: usize) -> Option<u32>
 }
 
 // `now=2024 159 1840`
-fn now_of(line: &[u8]) -> Option<NowLine>
+fn now_of(line: &[u8]) -> Option<Clock>
     requires { length line.now ≡ 17 }
     ensures { option_map now_parts result ≡ form_of now_line line.now }
 {
@@ -74,7 +67,7 @@ fn now_of(line: &[u8]) -> Option<NowLine>
     let day = tagged(line, 8, b" ", 3)?;
     let hour = tagged(line, 12, b" ", 2)?;
     let minute = codec::digits_at(line, 15, 2)?;
-    Some(NowLine {
+    Some(Clock {
         year,
         day,
         hour,
@@ -125,7 +118,7 @@ fn fixed_line<T, F: Fn(&[u8]) -> Option<T>>(
 }
 
 // Year, day, hour and minute of the next line from index at on, if it has the form `now=2024 159 1840`, and the index after it.
-pub fn now_line(input: &[u8], at: usize) -> Result<(NowLine, usize), Refusal>
+pub fn now_line(input: &[u8], at: usize) -> Result<(Clock, usize), Refusal>
     ensures { NowLinePromise input.now at result }
 {
     fixed_line(input, at, 17, now_of).ok_or(Refusal::Malformed)

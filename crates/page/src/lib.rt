@@ -27,15 +27,9 @@ struct Three {
 fn three_lines(input: &[u8]) -> Result<Three, Refusal>
     ensures { ThreeOf input.now result }
 {
-    let (now, next) = input_lines::now_line(input, 0)?;
+    let (at, next) = input_lines::now_line(input, 0)?;
     let (client, next) = input_lines::client_line(input, next)?;
     let (header, _) = input_lines::header_line(input, next)?;
-    let at = Clock {
-        year: now.year,
-        day: now.day,
-        hour: now.hour,
-        minute: now.minute,
-    };
     Ok(Three {
         at,
         client,
