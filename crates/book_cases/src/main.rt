@@ -91,6 +91,7 @@ fn load_all(book: &mut Book, wish: u32) -> u32 {
     number_of(book_loads::load(book, items.as_flattened()))
 }
 
+// The letter is the input's format: it is how a line says which edit.
 fn edited(book: &mut Book, kind: u8, a: u32, b: u32, c: u32) -> u32 {
     match kind {
         b'a' => number_of(book_edits::add(book, a, b, c)),
@@ -101,6 +102,7 @@ fn edited(book: &mut Book, kind: u8, a: u32, b: u32, c: u32) -> u32 {
     }
 }
 
+// The letter is the input's format here too.
 fn edited_all(book: &mut Book, kind: u8, wish: u32) -> u32 {
     match kind {
         b'f' => fill(book),

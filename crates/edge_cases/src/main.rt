@@ -37,6 +37,7 @@ fn times<W: Write>(out: &mut W, line: &[u8]) -> io::Result<()> {
     )
 }
 
+// The letter is the input's format: it is how a line says which call.
 fn call<W: Write>(out: &mut W, line: &[u8], name: u8) -> io::Result<()> {
     out.write_all(b":")?;
     match name {

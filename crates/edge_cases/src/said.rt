@@ -16,7 +16,7 @@ pub(crate) fn kind<W: Write>(out: &mut W, listed: bool, class: u32) -> io::Resul
     write!(out, " {} {class}", word(listed))
 }
 
-// What an answer is printed as, where nothing is refused.
+// What an answer is printed as, where nothing is refused. A trait of its own: Display cannot be written here for types of other crates.
 pub(crate) trait Shown {
     fn show<W: Write>(self, out: &mut W) -> io::Result<()>;
 }

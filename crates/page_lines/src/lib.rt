@@ -166,6 +166,7 @@ pub fn put_hits(out: &mut [u8], at: usize, hits: &[u32]) -> bool
     if room / 14 < pairs.len() {
         return false;
     }
+    // Counted by hand: e is where the next line goes in the lent text, not the number of a hit.
     let mut e = at;
     for [place, wish] in pairs {
         let hit = Hit {
