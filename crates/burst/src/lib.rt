@@ -8,7 +8,7 @@ ghost use Rattle.burst.specs.Strip.{preamble};
 ghost use Rattle.burst.specs.Bits.{voted_byte};
 ghost use Rattle.burst.specs.Vote.{middle, voted_length, too_long};
 ghost use Rattle.burst.specs.Promise.{LeadingPromise, StripPromise, VotePromise};
-ghost use Rattle.burst.specs.Steps.{voted_bytes, Agrees, Decides};
+ghost use Rattle.burst.specs.Steps.{voted_bytes, stretch, Agrees, Decides};
 
 use refusals::Refusal;
 
@@ -84,6 +84,17 @@ fn write_voted(a: &[u8], b: &[u8], c: &[u8], out: &mut [u8])
     }
 }
 
+// Copies the bytes of p from index from up to end to the same places. A `for` and not `copy_from_slice`, which calls memmove: the
+// library for C takes memcpy and memset from outside, and nothing else.
+fn write_rest(p: &[u8], from: usize, end: usize, out: &mut [u8])
+    requires { (from ≤ end) × (end ≤ length p.now) × (end ≤ length out.old) }
+    ensures { out.new ≡ pasted out.old from (stretch p.now from end) }
+{
+    for i in from..end {
+        out[i] = p[i];
+    }
+}
+
 // s is the shortest of three stripped bursts, and n the length of the next. Three reach as far as s does, so nothing
 // clashes there; from there up to n only p and q reach. So one search over that stretch settles 3, and then each byte
 // is written once, with no question of who reaches.
@@ -96,7 +107,7 @@ fn agree(s: &[u8], p: &[u8], q: &[u8], n: usize, out: &mut [u8]) -> Result<usize
         return Err(Refusal::ClashAt(m + k));
     }
     write_voted(s, p, q, out);
-    out[m..n].copy_from_slice(&p[m..n]);
+    write_rest(p, m, n, out);
     Ok(n)
 }
 

@@ -49,14 +49,17 @@ pub fn put_byte(out: &mut [u8], at: usize, b: u8) -> bool
     true
 }
 
-// Puts some bytes at index at and says yes, or says no where there is no room for all of them and writes nothing.
+// Puts some bytes at index at and says yes, or says no where there is no room for all of them and writes nothing. A `for` and not
+// `copy_from_slice`, which calls memmove: the library for C takes memcpy and memset from outside, and nothing else.
 pub fn put_bytes(out: &mut [u8], at: usize, src: &[u8]) -> bool
     ensures { PutPromise out.old at src.now result out.new }
 {
     if out.len() < at || out.len() - at < src.len() {
         return false;
     }
-    out[at..at + src.len()].copy_from_slice(src);
+    for k in 0..src.len() {
+        out[at + k] = src[k];
+    }
     true
 }
 

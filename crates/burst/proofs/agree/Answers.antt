@@ -2,11 +2,7 @@
 use mathlib.Core.Path.{refl}
 use native.Mathlib.Omega.{arith}
 use lib.ListN.{length}
-use Prim.Native.Nat.{◌-◌}
-use Rattle.laws.proofs.Parts.{length_part}
-use Rattle.laws.proofs.Pasted.{pasted_part}
 use Rattle.burst.proofs.Agreed.{found, not_found, agree_3, agree_text}
-use Rattle.burst.specs.Steps.{stretch}
 use Rattle.burst.proofs.agree.Goals as goal
 
 pub overflow_add-result : goal.overflow_add-result
@@ -24,9 +20,7 @@ pub returns : goal.returns
 returns c =
     let a = c.args in
     let v = c.write_voted in
-    let r = c.copy_from_slice in
+    let r = c.write_rest in
     let m = length a.s.now in
-    let rest = stretch a.p.now m a.n in
-    agree_text a.s.now a.p.now a.q.now a.n a.out.now _ refl v.new.out _
-    (not_found a.p.now a.q.now m a.n c.requires.0 c.requires.1 c.requires.2 c.in_default.ensures) c.requires.0 c.requires.1 c.requires.3 v.ensures
-    (pasted_part v.new.out m (a.n - m) r.new.self rest r.ensures.after (length_part a.p.now m (a.n - m) (omega arith)))
+    agree_text a.s.now a.p.now a.q.now a.n a.out.now _ refl v.new.out r.new.out
+    (not_found a.p.now a.q.now m a.n c.requires.0 c.requires.1 c.requires.2 c.in_default.ensures) c.requires.0 c.requires.1 c.requires.3 v.ensures r.ensures
