@@ -8,7 +8,7 @@ ghost use Rattle.event.specs.Promise.{ListedPromise, ClassPromise, ListedClassPr
 ghost use Rattle.event.specs.Steps.{Found};
 
 // The 61 codes, in the paper's order, and the class of each.
-static EVENTS: [([u8; 3], u32); 61] = [
+const EVENTS: [([u8; 3], u32); 61] = [
     (*b"BZW", 1),
     (*b"CFA", 2),
     (*b"CFW", 1),
