@@ -4,16 +4,14 @@ use refusals::Refusal;
 use std::io;
 use std::io::Write;
 
-fn word(b: bool) -> &'static str {
-    if b { "yes" } else { "no" }
-}
-
+// The word with its space is one write: each piece of a `write!` is one of its own.
 pub(crate) fn yes<W: Write>(out: &mut W, b: bool) -> io::Result<()> {
-    write!(out, " {}", word(b))
+    out.write_all(if b { b" yes" } else { b" no" })
 }
 
 pub(crate) fn kind<W: Write>(out: &mut W, listed: bool, class: u32) -> io::Result<()> {
-    write!(out, " {} {class}", word(listed))
+    yes(out, listed)?;
+    write!(out, " {class}")
 }
 
 // What an answer is printed as, where nothing is refused. A trait of its own: Display cannot be written here for types of other crates.
