@@ -5,13 +5,16 @@ use mathlib.Core.Path.{◌≡◌, sym, ◌∙◌}
 use Rattle.std.specs.Prelude.{Result}
 use Rattle.laws.specs.Order.{Said}
 use Rattle.refusals.specs.declared.Refusal.{Refusal}
-use Rattle.c_answers.specs.Promise.{CapPromise, AnswerPromise, ToldPromise, VotedPromise, EditedPromise, PrintedPromise, WrotePromise, YesPromise}
+use Rattle.c_answers.specs.Promise.{CapPromise, AnswerPromise, HalvesPromise, ToldPromise, VotedPromise, EditedPromise, PrintedPromise, WrotePromise, YesPromise}
 
 pub cap_no_choice : (v r q : ℕ) → CapPromise v r → CapPromise v q → r ≡ q
 cap_no_choice v r q a b = a.says ∙ sym b.says
 
 pub answer_no_choice : (number sizeOrIndex r q : ℕ) → AnswerPromise number sizeOrIndex r → AnswerPromise number sizeOrIndex q → r ≡ q
 answer_no_choice number sizeOrIndex r q a b = a.says ∙ sym b.says
+
+pub halves_no_choice : {A : Type 0} (said_of : A → Said ℕ) (v : A) (r q : ℕ) → HalvesPromise said_of v r → HalvesPromise said_of v q → r ≡ q
+halves_no_choice said_of v r q a b = a.says ∙ sym b.says
 
 pub told_no_choice : {T E : Type 0} (value : T → Said ℕ) (error : E → Said ℕ) (s : Result T E) (r q : ℕ)
     → ToldPromise value error s r → ToldPromise value error s q → r ≡ q

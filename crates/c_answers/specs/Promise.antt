@@ -12,6 +12,10 @@ pub record CapPromise (v r : ℕ) : Type 0 where
 pub record AnswerPromise (number sizeOrIndex r : ℕ) : Type 0 where
   pub says : r ≡ number + capped sizeOrIndex * half
 
+-- of a value or an error, by what it says
+pub record HalvesPromise {A : Type 0} (said_of : A → Said ℕ) (v : A) (r : ℕ) : Type 0 where
+  pub says : r ≡ in_halves (said_of v)
+
 -- what a result says, by what its value says and what its error says
 abbrev pub said_by : {T E : Type 0} → (T → Said ℕ) → (E → Said ℕ) → Result T E → Said ℕ
 said_by value error (Ok v) = value v

@@ -5,7 +5,7 @@ ghost use Rattle.std.specs.Prelude.{◌≡◌, ℕ};
 ghost use Rattle.laws.specs.Order.{Said, granted, refused, refused_at};
 ghost use Rattle.refusals.specs.Refusals.{says};
 ghost use Rattle.c_answers.specs.Answer.{in_halves};
-ghost use Rattle.c_answers.specs.Promise.{CapPromise, AnswerPromise, ToldPromise, YesPromise};
+ghost use Rattle.c_answers.specs.Promise.{CapPromise, AnswerPromise, HalvesPromise, ToldPromise, YesPromise};
 
 use refusals::Refusal;
 
@@ -28,7 +28,7 @@ pub trait Halves {
     ghost said_of: { Self → Said ℕ };
 
     fn halves(self) -> u64
-        ensures { result ≡ in_halves (said_of self) };
+        ensures { HalvesPromise said_of self result };
 }
 
 // A size: no number, and the size.
