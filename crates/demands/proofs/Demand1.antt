@@ -53,8 +53,9 @@ use Rattle.report.specs.Report.{times_rows, room_rows, alert_says, list_says, re
 use Rattle.report.proofs.NoChoice.{report_no_choice, report_refusal_writes_nothing}
 use Rattle.input_lines.proofs.NoChoice.{now_line_no_choice, client_line_no_choice, header_line_no_choice, sub_line_no_choice}
 use Rattle.page_lines.proofs.NoChoice.{size_of_no_choice}
+use Rattle.refusals.specs.Refusals.{says}
 use Rattle.refusals.proofs.NoChoice.{number_no_choice, index_no_choice}
-use Rattle.c_answers.proofs.NoChoice.{cap_no_choice, answer_no_choice, told_no_choice, voted_no_choice, edited_no_choice, printed_no_choice, wrote_no_choice, yes_no_choice}
+use Rattle.c_answers.proofs.NoChoice.{cap_no_choice, answer_no_choice, halves_no_choice, told_no_choice, voted_no_choice, edited_no_choice, printed_no_choice, wrote_no_choice, yes_no_choice}
 use Rattle.page_printing.specs.Promise.{print_says}
 use Rattle.page_printing.proofs.NoChoice.{print_no_choice, print_refusal_writes_nothing}
 use Rattle.page.proofs.NoChoice.{page_no_choice, page_refusal_writes_nothing}
@@ -141,8 +142,15 @@ every_call = record {
   edited = edited_no_choice;
   printed = printed_no_choice;
   wrote = wrote_no_choice;
+  told_size = told_no_choice (λ n. granted n) (λ e. says e);
+  told_nothing = told_no_choice (λ u. granted 0) (λ e. says e);
   told = told_no_choice (λ n. granted n) (λ n. refused n);
   told_at = told_no_choice (λ n. granted n) (λ r. refused_at r.0 r.1);
+  halves_size = halves_no_choice (λ n. granted n);
+  halves_nothing = halves_no_choice (λ u. granted 0);
+  halves_refusal = halves_no_choice (λ e. says e);
+  halves_number = halves_no_choice (λ n. refused n);
+  halves_number_at = halves_no_choice (λ r. refused_at r.0 r.1);
   yes = yes_no_choice;
   outside = outside_call;
 }

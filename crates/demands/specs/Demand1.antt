@@ -33,7 +33,7 @@ use Rattle.book_rules.specs.Rules.{good, recs, empty}
 use Rattle.book_rules.specs.Edits.{stands, full, add_says, remove_says}
 use Rattle.book_rules.specs.Load.{load_says, add_all, items}
 use Rattle.book_rules.specs.Afresh.{subs}
-use Rattle.refusals.specs.Refusals.{said}
+use Rattle.refusals.specs.Refusals.{says, said}
 use Rattle.refusals.specs.Promise.{NumberPromise, IndexPromise}
 use Rattle.refusals.specs.declared.Refusal.{Refusal}
 use Rattle.book_records.specs.Promise.{BadClientPromise, BadWishPromise, ClientOfPromise, WishOfPromise, MarkOrNonePromise, RankOfPromise, RankOrNonePromise}
@@ -52,7 +52,7 @@ use Rattle.page_lines.specs.Promise.{SizePromise}
 use Rattle.page_printing.specs.Page.{page_text, refused_text}
 use Rattle.page_printing.specs.Promise.{print_says, PrintPromise}
 use Rattle.page.specs.Promise.{PagePromise}
-use Rattle.c_answers.specs.Promise.{CapPromise, AnswerPromise, ToldPromise, VotedPromise, EditedPromise, PrintedPromise, WrotePromise, YesPromise}
+use Rattle.c_answers.specs.Promise.{CapPromise, AnswerPromise, HalvesPromise, ToldPromise, VotedPromise, EditedPromise, PrintedPromise, WrotePromise, YesPromise}
 use Rattle.demands.specs.Forms.{LeavesNoChoice, LeavesNoChoiceOf, RefusalWritesNothing, GoesBy, numbered}
 use Rattle.demands.specs.Program.{ProgramNumbers}
 use Rattle.demands.specs.Outside.{OutsideCall, OutsideRefusal, OutsideNumber}
@@ -149,9 +149,18 @@ pub record EveryCall : Type 0 where
   pub edited : (e : Result (Unit {0}) Refusal) → LeavesNoChoice (EditedPromise e)
   pub printed : (p : Result ℕ Refusal) → LeavesNoChoice (PrintedPromise p)
   pub wrote : (w : Result ℕ Refusal) → LeavesNoChoice (WrotePromise w)
-  -- the one call whose instances the four above are; here with any number at all, alone and with an index
+  -- told, of which the four above are instances: of a length and of nothing, with a refusal, as the calls from outside pass them; and with
+  -- any number at all, alone and with an index
+  pub told_size : (s : Result ℕ Refusal) → LeavesNoChoice (ToldPromise (λ n. granted n) (λ e. says e) s)
+  pub told_nothing : (s : Result (Unit {0}) Refusal) → LeavesNoChoice (ToldPromise (λ u. granted 0) (λ e. says e) s)
   pub told : (s : Result ℕ ℕ) → LeavesNoChoice (ToldPromise (λ n. granted n) (λ n. refused n) s)
   pub told_at : (s : Result ℕ (ℕ × ℕ)) → LeavesNoChoice (ToldPromise (λ n. granted n) (λ r. refused_at r.0 r.1) s)
+  -- what told asks of its value and of its error: a size, nothing, a refusal, a number, and a number with an index
+  pub halves_size : (n : ℕ) → LeavesNoChoice (HalvesPromise (λ n. granted n) n)
+  pub halves_nothing : (u : Unit {0}) → LeavesNoChoice (HalvesPromise (λ u. granted 0) u)
+  pub halves_refusal : (e : Refusal) → LeavesNoChoice (HalvesPromise (λ e. says e) e)
+  pub halves_number : (n : ℕ) → LeavesNoChoice (HalvesPromise (λ n. refused n) n)
+  pub halves_number_at : (r : ℕ × ℕ) → LeavesNoChoice (HalvesPromise (λ r. refused_at r.0 r.1) r)
   pub yes : (b : Bool) → LeavesNoChoice (YesPromise b)
   -- the 13 calls from outside, and the three over words that they hand on
   pub outside : OutsideCall
