@@ -18,20 +18,22 @@ struct Opening {
     at: usize,
 }
 
-// The list of places: how many they are, and the index behind the last mark. After a place comes a mark, after `-` another place. Codes are
-// put to the front of lent words, which are zeros.
-fn places_at(text: &[u8], at: usize, codes: &mut [u32; 31]) -> Result<(usize, usize), Refusal>
+// The list of places: how many they are, and the index behind the last mark. After a place comes a mark, after `-` another place. A step
+// that stops is handed on as it is: so the number of places has the type of a code. Codes are put to the front of lent words, which are
+// zeros.
+fn places_at(text: &[u8], at: usize, codes: &mut [u32; 31]) -> Result<(u32, usize), Refusal>
     requires { (at ≤ length text.now) × (codes.old ≡ replicate {A = ℕ} 31 0) }
     ensures { PlacesAt text.now at codes.new result }
 {
     let mut i = at;
     for (n, code) in codes.iter_mut().enumerate() {
-        let Ok((place, next)) = header_fields::place_at(text, i) else {
-            return Err(Refusal::NoPlaceAt(i));
+        let step = header_fields::place_at(text, i);
+        let Ok((place, next)) = step else {
+            return step;
         };
         *code = place;
         if text[i + 6] == 43 {
-            return Ok((n + 1, next));
+            return Ok((n as u32 + 1, next));
         }
         i = next;
     }
@@ -56,7 +58,7 @@ fn front_of(text: &[u8], codes: &mut [u32; 31]) -> Result<Opening, Refusal>
     let minutes = header_fields::minutes_at(text, at).ok_or(Refusal::NoDurationAt(at))?;
     let issue = header_fields::issue_at(text, at + 5).ok_or(Refusal::NoIssueAt(at + 5))?;
     Ok(Opening {
-        count,
+        count: count as usize,
         minutes,
         issue,
         at: at + 13,

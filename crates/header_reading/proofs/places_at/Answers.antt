@@ -1,7 +1,7 @@
 -- The loop's invariant: what is left to read, with the places read so far in front, is the whole list.
 use native.Mathlib.Omega.{arith}
 use borrow.Author.Tests.{eq-eqb, ne_eqb}
-use Rattle.header_reading.proofs.Listing.{begun, full, not_taken, step_is, long, answer, again}
+use Rattle.header_reading.proofs.Listing.{begun, full, stop, step_is, long, answer, again}
 use Rattle.header_reading.proofs.places_at.Goals as goal
 
 pub loop-n-init : goal.loop-n-init
@@ -19,7 +19,7 @@ loop-n-preserved c =
     again _ _ _ _ _ c.in-Ok.place _ c.loop-n.invariant (omega (arith, c.loop-n-test.true, c.loop-n.invariant.len)) (step_is _ _ _ _ c.in-Ok.ensures) (ne_eqb _ _ c.if-text-i-eq43.false)
 
 pub returns-in_default : goal.returns-in_default
-returns-in_default c = not_taken _ _ _ _ _ c.loop-n.invariant c.in_default.field-0 (c.in_default.ensures {u = tt})
+returns-in_default c = rw c.in_default.is (stop _ _ _ _ _ c.loop-n.invariant c.in_default.field-0 (c.in_default.ensures {u = tt}))
 
 pub returns : goal.returns
 returns c = full _ _ _ _ _ c.loop-n.invariant c.loop-n-test.false
