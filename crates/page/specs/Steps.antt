@@ -1,5 +1,5 @@
 -- Steps of the code.
-use Rattle.std.specs.Prelude.{ℕ, ◌+◌, ◌-◌, ◌*◌, ◌≤◌, ◌<◌, ◌≡◌, List, length, take, drop, Result, Ok, Err}
+use Rattle.std.specs.Prelude.{ℕ, ◌+◌, ◌-◌, ◌≤◌, ◌<◌, ◌≡◌, List, length, take, drop, Result, Ok, Err}
 use Rattle.std.specs.List.{flat_map}
 use Rattle.laws.specs.Order.{Said, granted, next}
 use Rattle.refusals.specs.Refusals.{says, said}
@@ -10,9 +10,6 @@ use Rattle.input_lines.specs.LineByLine.{each_line}
 use Rattle.book_rules.specs.Form.{form}
 use Rattle.book_rules.specs.Rules.{empty}
 use Rattle.book_rules.specs.Load.{items, add_all}
-use Rattle.report.specs.Hits.{pairs}
-use Rattle.report.specs.Report.{Full}
-use Rattle.report.specs.declared.Summary.{Summary}
 use Rattle.page.specs.Input.{adds_line, Shown, report_shows, input_says}
 use Rattle.page.specs.declared.Three.{Three}
 
@@ -49,11 +46,3 @@ pub record GatheredOf (t : List ℕ) (at : ℕ) (r : ℕ × Result (Unit {0}) Re
 -- the book after all of them, or the refusal
 abbrev pub booked : Result (Unit {0}) Refusal → List ℕ → Said (List ℕ)
 booked r book = next (said r) (λ u. granted book)
-
--- ---- the report
-
--- what the input says, by the client, the summary and the pairs that stand in front of the lent words
-abbrev pub Reported : List ℕ → Result (ℕ × Summary) Refusal → List ℕ → Type 0
-Reported t (Ok (client, s)) left =
-    (g : Full) × (input_says t ≡ granted (client, g)) × (g.summary ≡ s) × (2 * s.hits ≤ length left) × (take (2 * s.hits) left ≡ pairs g.hits)
-Reported t (Err e) left = input_says t ≡ says e

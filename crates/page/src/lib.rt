@@ -6,13 +6,14 @@ ghost use Rattle.input_lines.specs.Lines.{pieces};
 ghost use Rattle.input_lines.specs.Forms.{sub_line};
 ghost use Rattle.input_lines.specs.LineByLine.{each_line};
 ghost use Rattle.book_rules.specs.Rules.{empty};
-ghost use Rattle.page.specs.Input.{adds_line, hit_room};
+ghost use Rattle.page_printing.specs.Promise.{PrintPromise};
+ghost use Rattle.page.specs.Input.{adds_line, hit_room, report_shows};
+ghost use Rattle.page.specs.Page.{printed};
 ghost use Rattle.page.specs.Promise.{PagePromise};
-ghost use Rattle.page.specs.Steps.{ThreeOf, GatheredOf, booked, Reported};
+ghost use Rattle.page.specs.Steps.{three_say, HeaderIn, ThreeOf, GatheredOf, booked};
 
 use clock::Clock;
 use refusals::Refusal;
-use report::Summary;
 
 // The clock, the client, and where the header's bytes start and end.
 #[derive(Clone, Copy)]
@@ -71,30 +72,66 @@ fn add_subs(input: &[u8], at: usize, book: &mut [u32]) -> Result<(), Refusal>
     ended
 }
 
-// The client, and the report on the header for it, with words lent for the hits of a full book: an array and their number, since the
-// library has no heap.
-fn reported(input: &[u8], hits: &mut [u32]) -> Result<(u32, Summary), Refusal>
+// The report, and what is printed of it, with words lent for the hits.
+fn print_report(
+    book: &[u32],
+    client: u32,
+    header: &[u8],
+    at: Clock,
+    hits: &mut [u32],
+    out: &mut [u8],
+) -> Result<usize, Refusal>
     requires { length hits.old ≡ hit_room }
-    ensures { Reported input.now result hits.new }
+    ensures { PrintPromise (printed (report_shows book.now client header.now at)) out.old result out.new }
 {
-    let three = three_lines(input)?;
+    match report::report(book, client, header, at, hits) {
+        Ok(s) => {
+            let hits = &hits[..2 * s.hits];
+            page_printing::print_page(out, client, s.times, &s.event, s.listed, s.class, hits)
+        }
+        Err(e) => page_printing::print_refusal(out, e.number()),
+    }
+}
+
+// The same, with room for the hits of a full book: an array and their number, since the library has no heap. It is a function of its
+// own, so that this array and those that built the book are never there at once.
+fn finish(
+    book: &[u32],
+    client: u32,
+    header: &[u8],
+    at: Clock,
+    out: &mut [u8],
+) -> Result<usize, Refusal>
+    ensures { PrintPromise (printed (report_shows book.now client header.now at)) out.old result out.new }
+{
+    let mut hits = [0u32; 8192];
+    print_report(book, client, header, at, &mut hits, out)
+}
+
+// The page of an input whose first three lines are read: its `sub=` lines are added to an empty book, then comes the report.
+fn page_of(input: &[u8], three: Three, out: &mut [u8]) -> Result<usize, Refusal>
+    requires { HeaderIn input.now three }
+    ensures { PrintPromise (printed (three_say input.now three)) out.old result out.new }
+{
     let mut book = [0u32; 8293];
-    add_subs(input, three.to + 1, &mut book)?;
-    let header = &input[three.from..three.to];
-    let summary = report::report(&book, three.client, header, three.at, hits)?;
-    Ok((three.client, summary))
+    match add_subs(input, three.to + 1, &mut book) {
+        Ok(()) => finish(
+            &book,
+            three.client,
+            &input[three.from..three.to],
+            three.at,
+            out,
+        ),
+        Err(e) => page_printing::print_refusal(out, e.number()),
+    }
 }
 
 // The page of an input, printed to the front of out; or 13, and nothing is written.
 pub fn page(input: &[u8], out: &mut [u8]) -> Result<usize, Refusal>
     ensures { PagePromise input.now out.old result out.new }
 {
-    let mut hits = [0u32; 8192];
-    match reported(input, &mut hits) {
-        Ok((client, s)) => {
-            let hits = &hits[..2 * s.hits];
-            page_printing::print_page(out, client, s.times, &s.event, s.listed, s.class, hits)
-        }
-        Err(e) => page_printing::print_refusal(out, e.number()),
+    match three_lines(input) {
+        Ok(three) => page_of(input, three, out),
+        Err(malformed) => page_printing::print_refusal(out, malformed.number()),
     }
 }

@@ -1,9 +1,11 @@
--- A report's page, or the number of the refusal.
-use Rattle.page.proofs.Pages.{page_shown, page_refused}
+-- What is said once the first three lines are read is what the input says; a malformed one says 23.
+use Rattle.std.proofs.Common.{refl, sym}
+use Rattle.page.proofs.Pages.{prints_refused, prints_page}
 use Rattle.page.proofs.page.Goals as goal
 
 pub returns-in-Ok : goal.returns-in-Ok
-returns-in-Ok c = page_shown _ _ _ _ _ _ _ c.in-Ok.ensures c.print_page.ensures
+returns-in-Ok c = prints_page _ _ c.in-Ok.ensures.0 c.page_of.ensures
 
 pub returns-in-Err : goal.returns-in-Err
-returns-in-Err c = page_refused _ _ _ _ _ c.in-Err.ensures _ c.number.ensures.says c.print_refusal.ensures
+returns-in-Err c =
+    prints_page _ _ refl (prints_refused _ _ (sym c.in-Err.ensures) _ c.number.ensures.says c.print_refusal.ensures)
