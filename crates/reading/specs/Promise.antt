@@ -2,7 +2,7 @@
 use Rattle.std.specs.Prelude.{ℕ, ◌≡◌, List, length, Option, Result}
 use Rattle.reading.specs.Reading.{OneRead, read_in_turn, Within, Holds, Gone}
 
--- of an input's bytes, where they are known, `rest` is what it has left; the lent space holds `space`, and then `left`
+-- the call made the reads `reads`; of the input's bytes, where they are known, `rest` is what is left; the lent space holds `space`, and then `left`
 pub record ReadInputPromise {E : Type 0} (input rest : Option (List ℕ)) (space left : List ℕ) (r : Result ℕ E) : Type 0 where
   pub reads : List (OneRead E)
   pub says : (r, left) ≡ read_in_turn reads 0 space
