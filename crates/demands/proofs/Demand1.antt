@@ -1,5 +1,5 @@
 -- Demand 1: each line is the theorem of the call's own crate; the numbers go by the rows of the definitions.
-use mathlib.Core.Path.{◌≡◌, refl}
+use mathlib.Core.Path.{◌≡◌, refl, sym, ◌∙◌}
 use mathlib.Core.Bool.{Bool, true, ◌&&◌, not}
 use mathlib.Core.List.{List, [], ◌∷◌, ◌++◌}
 use Prim.Native.Nat.{ℕ}
@@ -11,6 +11,7 @@ use Rattle.laws.specs.Lists.{every}
 use Rattle.laws.specs.Numbers.{within}
 use Rattle.codec.proofs.NoChoice.{between_no_choice, same_no_choice, digits_at_no_choice, put_no_choice, put_refusal_writes_nothing}
 use Rattle.codec.specs.Promise.{put_says}
+use Rattle.reading.proofs.NoChoice.{read_input_no_choice}
 use Rattle.burst.specs.Vote.{vote_says}
 use Rattle.burst.proofs.NoChoice.{leading_no_choice, strip_no_choice, vote_no_choice, vote_refusal_writes_nothing}
 use Rattle.header.specs.Header.{Alert, is_origin, is_event, is_issue, is_sender, is_duration, issue, front, header, text_of}
@@ -128,6 +129,7 @@ every_call = record {
   print_refusal = λ number out r q left rest a b. print_no_choice a b;
   print_page = λ client times event listed class hits out r q left rest a b. print_no_choice a b;
   page = λ input out r q left rest a b. page_no_choice a b;
+  read_input = λ input rest space reads r q left other a b. read_input_no_choice a.0 b.0 (a.1 ∙ sym b.1);
   between = λ lo hi b r q p u. between_no_choice p u;
   same = λ a b r q p u. same_no_choice p u;
   digits_at = λ text at width r q a b. digits_at_no_choice a b;

@@ -70,6 +70,7 @@ use Rattle.place.proofs.Matching.{amends, cases, has_state, matches_from, matche
 use Rattle.place.proofs.Matching.{some_national, some_none, some_skipped}
 use Rattle.place.proofs.Packed.{packed_match_is, packed_some}
 use Rattle.place.proofs.Words.{before_word, fine, place_back, word_back, word_before, word_high, word_low}
+use Rattle.reading.proofs.NoChoice.{read_input_known_no_choice, read_input_no_choice, read_input_whole}
 use Rattle.refusals.proofs.Apart.{says_one}
 use Rattle.refusals.proofs.NoChoice.{said_one as refusals_NoChoice_said_one}
 use Rattle.refusals.proofs.Said.{leaves_refused, never_granted, next_refused}

@@ -1,12 +1,15 @@
 -- Demand 1. Its first half is no statement of this crate: that a call takes any input, ends, and touches nothing outside what it was
 -- lent is what the check proves of every function before its promise counts, and no public function has a precondition.
-use Rattle.std.specs.Prelude.{ℕ, ◌+◌, ◌*◌, ◌≡◌, Bool, true, ◌&&◌, not, List, [], ◌∷◌, length, eqb, ltb, Result}
+use Rattle.std.specs.Prelude.{ℕ, ◌+◌, ◌*◌, ◌≡◌, Bool, true, ◌&&◌, not, List, [], ◌∷◌, length, eqb, ltb, Option, Result}
 use Rattle.std.specs.Borrow.{Bor}
+use Rattle.std.specs.declared.io.Error.{Error}
 use Rattle.laws.specs.Order.{granted, refused, refused_at, ◌when◌, in_order, next, is_refusal}
 use Rattle.laws.specs.Lists.{every}
 use Rattle.laws.specs.Numbers.{within, dig}
 use Rattle.codec.specs.Promise.{BetweenPromise, SamePromise, DigitsAtPromise, put_says, said_put, PutPromise}
 use Rattle.codec.specs.Codec.{no}
+use Rattle.reading.specs.Reading.{OneRead}
+use Rattle.reading.specs.Promise.{ReadInputPromise}
 use Rattle.burst.specs.Strip.{stripped}
 use Rattle.burst.specs.Vote.{voted_length, clash_at, too_long, vote_says}
 use Rattle.burst.specs.Promise.{LeadingPromise, StripPromise, VotePromise, said_vote}
@@ -132,6 +135,9 @@ pub record EveryCall : Type 0 where
   pub print_page : (client : ℕ) (times : Times) (event : List ℕ) (listed : Bool) (class : ℕ) (hits out : List ℕ)
       → LeavesNoChoiceOf (PrintPromise (page_text client times event listed class hits) out)
   pub page : (input out : List ℕ) → LeavesNoChoiceOf (PagePromise input out)
+  -- an input that is read: what its reads answered, and left of the space that each was lent, is given
+  pub read_input : (input rest : Option (List ℕ)) (space : List ℕ) (reads : List (OneRead Error))
+      → LeavesNoChoiceOf (λ (r : Result ℕ Error) left. (p : ReadInputPromise {E = Error} input rest space left r) × (p.reads ≡ reads))
   -- bytes and digits
   pub between : (lo hi b : ℕ) → LeavesNoChoice (BetweenPromise lo hi b)
   pub same : (a b : List ℕ) → LeavesNoChoice (SamePromise a b)

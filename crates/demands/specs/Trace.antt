@@ -79,6 +79,7 @@ use Rattle.place.specs.Meaning.{ByParts}
 use Rattle.place.specs.Meaning.Match.{by_parts, whole_country}
 use Rattle.place.specs.Packed.{packed_match}
 use Rattle.place.specs.Place.{county, match_by_parts, matches, matches_some, meet, part, state}
+use Rattle.reading.specs.Reading.{Gone, Holds as reading_Reading_Holds, Within, after_read, read_in_turn}
 use Rattle.refusals.specs.Refusals.{said, says}
 use Rattle.report.specs.Answers.{answer_says}
 use Rattle.report.specs.Exact.{After, Lists, wanted}
