@@ -10,7 +10,7 @@ pub returns-in_err-n-clause-value : goal.returns-in_err-n-clause-value
 returns-in_err-n-clause-value c = c.from_residual-in_err-n.ensures ∙ line_none _ _ _ c.in_ok-get.ensures.lookup.0.2 c.in_err-n.ensures
 
 pub returns-then-n-gt300-clause-value : goal.returns-then-n-gt300-clause-value
-returns-then-n-gt300-clause-value c = line_long _ _ _ c.in_ok-get.ensures.lookup.0.2 _ c.in_ok-n.ensures c.if-n-gt300.true
+returns-then-n-gt300-clause-value c = line_long _ _ _ c.in_ok-get.ensures.lookup.0.2 _ c.in_ok-n.ensures (omega arith)
 
 pub returns-clause-value : goal.returns-clause-value
 returns-clause-value c = line_ends _ _ _ c.in_ok-get.ensures.lookup.0.2 _ c.in_ok-n.ensures c.if-n-gt300.false
