@@ -1,6 +1,6 @@
 -- The loop that reads the list of places: what is left to read, with the places read so far in front, is the whole list.
 use Prim.Native.Nat.{ℕ, suc, ◌+◌, ◌-◌, ◌≤◌, ◌<◌}
-use mathlib.Core.Path.{◌≡◌, refl, sym, ap, ◌∙◌, subst}
+use mathlib.Core.Path.{◌≡◌, refl, sym, ap, ◌∙◌}
 use mathlib.Core.List.{List, [], ◌∷◌, ◌++◌, append_assoc}
 use mathlib.Core.Bool.{Bool, true, false}
 use mathlib.Core.Logic.{⊎_elim}
@@ -10,7 +10,6 @@ use lib.ListN.{length, get_or, take, drop, set, replicate, length-set}
 use lib.Seq.{take-suc-set, drop-set-lt, drop-drop, get_or-drop}
 use lib.Dec.{eqb}
 use Rattle.std.specs.Prelude.{Ok, Err}
-use Rattle.refusals.proofs.Apart.{says_one}
 use Rattle.laws.specs.Order.{refused_at, choose}
 use Rattle.refusals.specs.Refusals.{says}
 use Rattle.refusals.specs.declared.Refusal.{Refusal}
@@ -79,15 +78,7 @@ module _ (t : List ℕ) (at : ℕ) (codes : List ℕ) (n i : ℕ) (g : Going t a
       ⊎_elim (λ lt. let l : left (31 - n) ≡ no 8 i = ap left (more lt) ∙ simp f.0 in no_more e s.its s.at s.says (l ∙ own))
       (λ ge. let z : 31 - n ≡ 0 = omega arith in no_more e s.its s.at s.says (ap left z ∙ own)) (le_or_lt n 31)
 
-  -- a place stands there
-  -- a step that is not taken stops at its own index
-  pub not_taken : (e : Refusal) → PlaceAtPromise t i (Err e) → PlacesAt t at codes (Err (NoPlaceAt i))
-  not_taken e p =
-      let s = stopped (List ℕ × ℕ) (step 8 place mark (drop i t) i) e p.says in
-      let f = step_stops 8 place mark (drop i t) i s.its s.at s.stops in
-      let own : says {A = List ℕ × ℕ} e ≡ says (NoPlaceAt i) = s.says ∙ λ q. refused_at (f.1 q) (f.2 q) in
-      subst (λ (x : Refusal). PlacesAt t at codes (Err x)) (says_one e (NoPlaceAt i) own) (stop e p)
-
+-- a place stands there
 pub step_is : (t : List ℕ) (i p j : ℕ) → PlaceAtPromise t i (Ok (p, j)) → got p (drop j t) j ≡ step 8 place mark (drop i t) i
 step_is t i p j a = taken 8 place mark t i p j a.says
 
