@@ -1,13 +1,18 @@
 -- How many bytes are dropped is told by the bytes themselves: those count, and then comes one that does not, or the 17th, or the end.
-use mathlib.Core.Path.{◌≡◌, refl}
-use mathlib.Core.Bool.{Bool, true, false, cond}
+use mathlib.Core.Path.{◌≡◌, refl, sym, ap, ◌∙◌}
+use mathlib.Core.Bool.{Bool, true, false, cond, not}
 use mathlib.Core.Logic.{⊎_elim}
 use mathlib.Core.List.{List, [], ◌∷◌}
-use Prim.Native.Nat.{ℕ, zero, suc, ◌+◌, ◌-◌, ◌≤◌, ◌<◌}
+use Prim.Native.Nat.{ℕ, zero, suc, ◌+◌, ◌-◌, ◌≤◌, ◌<◌, min}
 use native.Mathlib.Omega.{arith}
+use borrow.Author.Tests.{ltb-false}
+use lib.Dec.{ltb}
 use lib.ListN.{length, take, drop, get_or, length-drop}
 use lib.Seq.{get_or-drop, take_all}
-use Rattle.std.specs.List.{prefix_len}
+use Rattle.std.specs.Prelude.{Some, None, position}
+use Rattle.std.specs.List.{position_or_len}
+use Rattle.std.specs.Option.{unwrap_or}
+use Rattle.std.proofs.lemmas.List.Sums.{prefix_len-le-length}
 use Rattle.laws.specs.Order.{choose}
 use Rattle.laws.proofs.Tests.{no_both, le_or_lt}
 use Rattle.burst.specs.Strip.{preamble, lead_up_to, lead, stripped}
@@ -77,19 +82,35 @@ pub stripped_bytes : (l : List ℕ) → Bytes l → Bytes (stripped l)
 unfolding stripped
 stripped_bytes l b i = rw (get_or-drop (lead l) l i 0) (b (lead l + i))
 
--- ---- as the code counts: those of the first 16 that pass from the front on
+-- ---- as the code looks: where the first of the first 16 stands that does not count; where none does, all of them count
 
-up_to : (n : ℕ) (l : List ℕ) → prefix_len preamble (take n l) ≡ lead_up_to n l
+abbrev other : ℕ → Bool
+other x = not (preamble x)
+
+up_to : (n : ℕ) (l : List ℕ) → position_or_len other (take n l) ≡ lead_up_to n l
 unfolding lead_up_to
 up_to zero l = refl
 up_to (suc n) [] = refl
 up_to (suc n) (x ∷ xs) = by (preamble x) (up_to n xs)
   where
-    by : (b : Bool) → prefix_len preamble (take n xs) ≡ lead_up_to n xs
-        → cond b (1 + prefix_len preamble (take n xs)) 0 ≡ choose b (suc (lead_up_to n xs)) 0
+    by : (b : Bool) → position_or_len other (take n xs) ≡ lead_up_to n xs
+        → cond (not (not b)) (1 + position_or_len other (take n xs)) 0 ≡ choose b (suc (lead_up_to n xs)) 0
     by true e = rw e (omega arith)
     by false e = refl
 
-pub lead_prefix : (l : List ℕ) → prefix_len preamble (take 16 l) ≡ lead l
+settled : (b : Bool) (j m : ℕ) → ltb j m ≡ b → j ≤ m → unwrap_or (cond b (Some j) None) m ≡ j
+settled true j m e h = refl
+settled false j m e h = omega (arith, ltb-false _ _ e)
+
+first_16 : (l : List ℕ) (n : ℕ) → n ≡ min (length l) 16 → take n l ≡ take 16 l
+first_16 l n e =
+    ⊎_elim (λ h. let m : n ≡ 16 = omega arith in ap (λ (k : ℕ). take k l) m) (λ h. take_all n l (omega arith) ∙ sym (take_all 16 l (omega arith)))
+    (le_or_lt 16 (length l))
+
+pub first_other_is : (l : List ℕ) (n : ℕ) → n ≡ min (length l) 16 → unwrap_or (position other (take n l)) (length (take n l)) ≡ lead l
 unfolding lead
-lead_prefix l = up_to _ l
+first_other_is l n e =
+    let t = take 16 l in
+    ap (λ (x : List ℕ). unwrap_or (position other x) (length x)) (first_16 l n e)
+    ∙ settled (ltb (position_or_len other t) (length t)) (position_or_len other t) (length t) refl (prefix_len-le-length (λ x. not (other x)) t)
+    ∙ up_to _ l

@@ -29,15 +29,19 @@ fn is_preamble(x: u8) -> bool
     u8::count_ones(x ^ 0xAB) <= 1
 }
 
+// Where the first byte stands that does not count as preamble, if one does.
+fn first_other(burst: &[u8]) -> Option<usize>
+    ensures { result ≡ position (λ x. not (preamble x)) burst.now }
+{
+    burst.iter().position(|x| !is_preamble(*x))
+}
+
 // How many bytes the stripping drops: the leading preamble bytes, up to 16. One look at each, and at the byte that ends the run.
 pub fn leading(burst: &[u8]) -> usize
     ensures { LeadingPromise burst.now result }
 {
-    burst
-        .iter()
-        .take(16)
-        .take_while(|x| is_preamble(**x))
-        .count()
+    let first = &burst[..burst.len().min(16)];
+    first_other(first).unwrap_or(first.len())
 }
 
 // The part of the burst that follows the bytes dropped; nothing is copied.

@@ -1,7 +1,8 @@
 // The code on bytes and digits that the formats share. Every call takes any input.
 #![tactic(auto)]
 
-ghost use Rattle.std.specs.Prelude.{◌≡◌, ◌∷◌, []};
+ghost use Rattle.std.specs.Prelude.{◌≡◌, ◌∷◌, [], eqb};
+ghost use Rattle.std.specs.List.{list_all, zip};
 ghost use Rattle.laws.specs.Numbers.{dig};
 ghost use Rattle.codec.specs.Promise.{BetweenPromise, SamePromise, DigitsAtPromise, PutPromise};
 
@@ -12,11 +13,18 @@ pub fn between(lo: u8, hi: u8, b: u8) -> bool
     lo <= b && b <= hi
 }
 
+// Whether a and b are alike, as far as both reach. Byte by byte, since the library's `==` is a call of its own, dear for a field's few bytes.
+fn alike(a: &[u8], b: &[u8]) -> bool
+    ensures { result ≡ list_all (λ x. eqb x.0 x.1) (zip a.now b.now) }
+{
+    a.iter().zip(b).all(|(x, y)| x == y)
+}
+
 // Whether a and b are the same bytes.
 pub fn same(a: &[u8], b: &[u8]) -> bool
     ensures { SamePromise a.now b.now result }
 {
-    a == b
+    a.len() == b.len() && alike(a, b)
 }
 
 // The number that the width digits at index at make; none where one is no digit, where fewer bytes stand there, or where width is
