@@ -2,7 +2,8 @@
 use Rattle.std.specs.Prelude.{ℕ, ◌≡◌, List, length, Option, Result}
 use Rattle.reading.specs.Reading.{OneRead, read_in_turn, Within, Holds, Gone}
 
--- the call made the reads `reads`; of the input's bytes, where they are known, `rest` is what is left; the lent space holds `space`, and then `left`
+-- the answer and the space follow from the reads `reads`, those that the proof of the call gives; of the input's bytes, where they are known,
+-- `rest` is what is left; the lent space holds `space`, and then `left`
 pub record ReadInputPromise {E : Type 0} (input rest : Option (List ℕ)) (space left : List ℕ) (r : Result ℕ E) : Type 0 where
   pub reads : List (OneRead E)
   pub says : (r, left) ≡ read_in_turn reads 0 space
